@@ -1,0 +1,7 @@
+pub mod Cases
+pub mod FaultLaws
+pub mod NumeralLaws
+pub mod RunLaws
+pub mod LineLaws
+pub mod LineCuts
+pub mod WordLaws

@@ -1,0 +1,16 @@
+-- The first faulty item of a list of n items, and its cause; an item behind the last one, at n, is one that is missing.
+use Rattle.std.specs.Prelude.{◌≡◌, ℕ, ◌<◌, ◌≤◌, Option, Some, None}
+
+-- no item before the place is faulty
+abbrev pub NoFaultBelow : {Cause : Type 0} → (ℕ → Option Cause) → ℕ → Type 0
+NoFaultBelow fault_at n = (j : ℕ) → j < n → fault_at j ≡ None
+
+-- neither an item nor the end of the list is faulty
+abbrev pub HasNoFault : {Cause : Type 0} → (ℕ → Option Cause) → ℕ → Type 0
+HasNoFault fault_at n = (j : ℕ) → j ≤ n → fault_at j ≡ None
+
+-- the item at the place is faulty by this cause, and none before it is
+pub record IsFirstFault {Cause : Type 0} (fault_at : ℕ → Option Cause) (n place : ℕ) (cause : Cause) : Type 0 where
+  pub within : place ≤ n
+  pub before : NoFaultBelow fault_at place
+  pub here : fault_at place ≡ Some cause

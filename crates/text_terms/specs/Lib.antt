@@ -1,0 +1,5 @@
+pub mod Lines
+pub mod Words
+pub mod Numerals
+pub mod Names
+pub mod Faults
