@@ -1,0 +1,4 @@
+pub mod LineCursor
+pub mod Parting
+pub mod WordCursor
+pub mod Reading

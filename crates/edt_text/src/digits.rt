@@ -1,0 +1,64 @@
+//! Numbers as shortest decimals, written and read.
+ghost use Rattle.std.specs.Prelude.{◌≡◌, ℕ, ◌^◌, ◌<◌, List, ◌++◌, OnOk, OnErr, decimal};
+ghost use Rattle.std.specs.Fmt.{signed_decimal};
+ghost use Rattle.edt_text.specs.Reading as reading;
+ghost use Rattle.edt_text.specs.Reading.{reading_of, value_within};
+
+use itoa::Buffer;
+use std::alloc::AllocError;
+
+/// Appends the shortest decimal of `value` to `out`. For want of memory `out` stays unchanged.
+pub fn push_number(out: &mut Vec<u8>, value: u64) -> Result<(), AllocError>
+    ensures ok { OnOk result (out.new.items ≡ out.old.items ++ decimal value) }
+    ensures err { OnErr result (out.new.items ≡ out.old.items) }
+{
+    let mut buffer = Buffer::new();
+    out.extend_from_slice(buffer.format(value).as_bytes())
+}
+
+/// Appends the shortest decimal of `value` to `out`, with `-` before one below 0. For want of memory `out` stays unchanged.
+pub fn push_signed(out: &mut Vec<u8>, value: i64) -> Result<(), AllocError>
+    ensures ok { OnOk result (out.new.items ≡ out.old.items ++ signed_decimal value) }
+    ensures err { OnErr result (out.new.items ≡ out.old.items) }
+{
+    let mut signed = Buffer::new();
+    out.extend_from_slice(signed.format(value).as_bytes())
+}
+
+/// The number of which `word` is the shortest decimal: one digit, or several of which the first isn't 0. `None` where it is that
+/// of no number below 2^64.
+pub fn read_number(word: &[u8]) -> Option<u64>
+    ensures { result ≡ reading_of word.now }
+{
+    match word {
+        [] => None,
+        [b'0', _, ..] => None,
+        _ => value_of(word),
+    }
+}
+
+/// What `push_number` appends for a number is read back as it, and no other word is read as that number.
+pub fn reads_back()
+    ensures { (n : ℕ) → n < 2 ^ 64 → (reading_of (decimal n) ≡ Some n) × ((word : List ℕ) → reading_of word ≡ Some n → word ≡ decimal n) }
+{}
+
+// The number that digits write, or `None` where a byte isn't a digit or the number isn't below 2^64.
+fn value_of(word: &[u8]) -> Option<u64>
+    ensures { result ≡ value_within word.now }
+{
+    let mut value: u64 = 0;
+    for byte in word {
+        value = with_digit(value, *byte)?;
+    }
+    Some(value)
+}
+
+// The number with one more digit, where the byte is a digit and the number stays below 2^64.
+fn with_digit(value: u64, byte: u8) -> Option<u64>
+    ensures { result ≡ reading.with_digit value byte }
+{
+    if !byte.is_ascii_digit() {
+        return None;
+    }
+    value.checked_mul(10)?.checked_add(u64::from(byte - b'0'))
+}

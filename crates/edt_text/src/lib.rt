@@ -1,0 +1,18 @@
+//! Lines, words, names and digits of texts, read as bytes.
+//!
+//! `Lines`, `Words` and `FileWords` are cursors over bytes that take no memory, and a copy of one goes on from the same place.
+//! A line ends with a line feed. Words are parted by tabs, vertical tabs, form feeds, carriage returns and blanks, so a carriage
+//! return at the end of a line belongs to no word. No length of a line is refused here: a reader with a limit tests `Line::bytes`.
+#![tactic(auto)]
+
+mod cursor;
+mod digits;
+mod naming;
+mod splitting;
+#[cfg(test)]
+mod tests;
+
+pub use cursor::{Line, Lines};
+pub use digits::{push_number, push_signed, read_number, reads_back};
+pub use naming::{Name, NameFault, are_same};
+pub use splitting::{FileWords, Words};
