@@ -1,0 +1,9 @@
+pub mod ListLaws
+pub mod EventLaws
+pub mod DraftSteps
+pub mod DigitLaws
+pub mod FaultSteps
+pub mod DateLaws
+pub mod PickSteps
+pub mod FieldSteps
+pub mod ReadSteps

@@ -1,0 +1,7 @@
+use Rattle.std.proofs.Common.{refl}
+use Rattle.phase_reader.specs.PhaseEvents.{closed_lines, open_lines}
+use Rattle.phase_reader.proofs.draft.Draft.new.Goals as goal
+
+pub returns : goal.returns
+unfolding closed_lines open_lines
+returns c = record { events = rw c.new.ensures.items refl; picks = c.new-2.ensures.items; passed = refl }

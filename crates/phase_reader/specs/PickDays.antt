@@ -1,0 +1,8 @@
+-- The day that a number yyyymmdd names.
+use Rattle.std.specs.Prelude.{ℕ, pos}
+use Rattle.phase_reader.specs.declared.values.CivilDay.{CivilDay}
+use Rattle.phase_reader.specs.PickFields.{year_of, month_of, day_of, day_number}
+
+-- year, month and day, and the day number
+abbrev pub civil_day : ℕ → CivilDay
+civil_day n = record { date = (pos (year_of n), pos (month_of n), pos (day_of n)); number = day_number n }

@@ -1,0 +1,218 @@
+//! A phase file that is read line by line.
+ghost use Rattle.std.specs.Prelude.{◌≡◌, ◌≢◌, ◌+◌, ◌<◌, ◌≤◌, [], ◌∷◌, ◌++◌, List, IsTrue, OnOk, OnErr, IfOk, IfErr, length, false, codes, ℕ};
+ghost use Rattle.std.specs.List.{list_all};
+ghost use Rattle.std.specs.Str.{bytes_eq};
+ghost use Rattle.text_terms.specs.Names.{is_name, is_name_byte};
+ghost use Rattle.text_terms.specs.Words.{words_of};
+ghost use Rattle.edt_text.specs.WordCursor.{words_left};
+ghost use Rattle.phase_reader.specs.LineKinds.{NumberedLine, kind_of};
+ghost use Rattle.phase_reader.specs.PickWords.{pick_words};
+ghost use Rattle.phase_reader.specs.PickFields.{pick_of_words, pick_of};
+ghost use Rattle.phase_reader.specs.PickFaults.{words_fault, pick_fault};
+ghost use Rattle.phase_reader.specs.PhaseEvents.{passes_limit};
+ghost use Rattle.phase_reader.specs.PhaseFile.{fault_after, picks_of_events};
+ghost use Rattle.phase_reader.specs.Drafts.{field_words, as_event, Follows};
+
+use crate::fault::PhaseCause;
+use crate::fields::{Fields, read_fields};
+use crate::kind::{LineKind, kind_of};
+use crate::phases::{Event, Phases, Pick};
+use crate::values::{read_clock, read_date, read_decimal, read_seconds, read_weight, time_at};
+use edt_text::{Name, Words};
+use std::alloc::Global;
+use std::mem;
+
+// The limits of this project: bytes of a line, events of a file, picks of an event, and microseconds between a pick and its event's
+// first.
+const LONGEST_LINE: usize = 4096;
+
+const MOST_EVENTS: usize = 10_000;
+
+const MOST_PICKS: usize = 4096;
+
+const FARTHEST: u64 = 1_000_000_000_000;
+
+/// What the lines so far say: the events that a blank line ended, the picks behind the last blank line, and how many lines were
+/// passed over.
+#[derive(Drop)]
+pub(crate) struct Draft {
+    events: Vec<Event>,
+    picks: Vec<Pick>,
+    passed: u32,
+}
+
+impl Draft {
+    /// The draft of no lines.
+    pub(crate) fn new(alloc: Global) -> Draft
+        ensures { Follows [] result }
+    {
+        Draft {
+            events: Vec::new(alloc),
+            picks: Vec::new(alloc),
+            passed: 0,
+        }
+    }
+
+    /// Takes one more line. After an error the draft is of no use.
+    pub(crate) fn take_line(
+        &mut self,
+        alloc: Global,
+        number: u32,
+        line: &[u8],
+    ) -> Result<(), PhaseCause>
+        requires { self.old.passed < number }
+        ensures room { self.new.passed ≤ number }
+        ensures follows { OnOk result ((before : List NumberedLine) → Follows before self.old → Follows (before ++ (number, line.now) ∷ []) self.new) }
+        ensures good { OnOk result ((before : List NumberedLine) → Follows before self.old → fault_after before (number, line.now) ≡ None) }
+        ensures fault { IfErr result (λ cause. cause ≢ PhaseCause.Memory → (before : List NumberedLine) → Follows before self.old → fault_after before (number, line.now) ≡ Some cause) }
+    {
+        if line.len() > LONGEST_LINE {
+            return Err(PhaseCause::LongLine);
+        }
+        let words = Words::new(line);
+        match kind_of(words) {
+            LineKind::Blank => self.end_event(alloc),
+            LineKind::Comment => Ok(()),
+            LineKind::PublicId => {
+                self.passed += 1;
+                Ok(())
+            }
+            LineKind::PickLine => {
+                let Some(fields) = read_fields(words) else {
+                    return Err(PhaseCause::Fields);
+                };
+                let pick = read_pick(alloc, number, &fields)?;
+                self.take_pick(pick)
+            }
+        }
+    }
+
+    /// The phase file of the lines that were taken.
+    pub(crate) fn finish(mut self, alloc: Global) -> Result<Phases, PhaseCause>
+        ensures memory { IfErr result (λ cause. cause ≡ PhaseCause.Memory) }
+        ensures events { IfOk result (λ phases. picks_of_events phases.events.items ≡ picks_of_events self.events.items ++ as_event self.picks.items) }
+        ensures passed { IfOk result (λ phases. phases.passed ≡ self.passed) }
+    {
+        self.end_event(alloc)?;
+        Ok(Phases {
+            events: self.events,
+            passed: self.passed,
+        })
+    }
+
+    // Makes an event of the picks, if there are any.
+    fn end_event(&mut self, alloc: Global) -> Result<(), PhaseCause>
+        ensures memory { IfErr result (λ cause. cause ≡ PhaseCause.Memory) }
+        ensures events { OnOk result (picks_of_events self.new.events.items ≡ picks_of_events self.old.events.items ++ as_event self.old.picks.items) }
+        ensures picks { OnOk result (self.new.picks.items ≡ []) }
+        ensures passed { self.new.passed ≡ self.old.passed }
+    {
+        if self.picks.is_empty() {
+            return Ok(());
+        }
+        let picks = mem::replace(&mut self.picks, Vec::new(alloc));
+        match self.events.push(Event { picks }) {
+            Ok(()) => Ok(()),
+            Err(_) => Err(PhaseCause::Memory),
+        }
+    }
+
+    // Takes a pick behind the others, unless it passes a limit.
+    fn take_pick(&mut self, pick: Pick) -> Result<(), PhaseCause>
+        ensures events { self.new.events ≡ self.old.events }
+        ensures passed { self.new.passed ≡ self.old.passed }
+        ensures picks { OnOk result (self.new.picks.items ≡ self.old.picks.items ++ pick ∷ []) }
+        ensures good { OnOk result (passes_limit (length self.old.events.items) self.old.picks.items pick.time ≡ false) }
+        ensures fault { IfErr result (λ cause. cause ≢ PhaseCause.Memory → (cause ≡ PhaseCause.Limit) × IsTrue (passes_limit (length self.old.events.items) self.old.picks.items pick.time)) }
+    {
+        if self.is_past_limit(&pick) {
+            return Err(PhaseCause::Limit);
+        }
+        match self.picks.push(pick) {
+            Ok(()) => Ok(()),
+            Err(_) => Err(PhaseCause::Memory),
+        }
+    }
+
+    // Whether a pick behind the others passes a limit.
+    fn is_past_limit(&self, pick: &Pick) -> bool
+        ensures { result ≡ passes_limit (length self.now.events.items) self.now.picks.items pick.now.time }
+    {
+        match self.picks.as_slice() {
+            [] => self.events.len() >= MOST_EVENTS,
+            [first, ..] => {
+                self.picks.len() >= MOST_PICKS || pick.time.abs_diff(first.time) > FARTHEST
+            }
+        }
+    }
+}
+
+// The pick that the words of a line mean, or the first fault in them.
+fn read_pick(alloc: Global, line: u32, fields: &Fields) -> Result<Pick, PhaseCause>
+    ensures pick { IfOk result (λ pick. pick ≡ pick_of_words line (field_words fields.now)) }
+    ensures good { OnOk result (words_fault (field_words fields.now) ≡ None) }
+    ensures fault { IfErr result (λ cause. cause ≢ PhaseCause.Memory → words_fault (field_words fields.now) ≡ Some cause) }
+{
+    let station = read_name(alloc, fields.station)?;
+    let phase = read_name(alloc, fields.phase)?;
+    let Some(day) = read_date(fields.date) else {
+        return Err(PhaseCause::Date);
+    };
+    let Some(clock) = read_clock(fields.clock) else {
+        return Err(PhaseCause::Time);
+    };
+    let seconds = read_seconds(fields.seconds)?;
+    if !is_gau(fields.error_type) {
+        return Err(PhaseCause::ErrorType);
+    }
+    let error = read_decimal(fields.error)?;
+    let weight = read_weight(fields.weight)?;
+    Ok(Pick {
+        line,
+        station,
+        phase,
+        day: day.date,
+        time: time_at(day.number, clock, seconds),
+        error,
+        weight,
+    })
+}
+
+// A station or a phase: a name of at most 64 bytes.
+fn read_name(alloc: Global, word: &[u8]) -> Result<Name, PhaseCause>
+    ensures name { IfOk result (λ name. name ≡ word.now) }
+    ensures good { OnOk result (IsTrue (is_name 64 word.now)) }
+    ensures fault { IfErr result (λ cause. cause ≢ PhaseCause.Memory → (cause ≡ PhaseCause.Name) × (is_name 64 word.now ≡ false)) }
+{
+    if !is_short_name(word) {
+        return Err(PhaseCause::Name);
+    }
+    // such a word is refused for want of memory alone
+    match Name::new(alloc, word) {
+        Ok(name) => Ok(name),
+        Err(_) => Err(PhaseCause::Memory),
+    }
+}
+
+// Whether a word has 1 to 64 bytes, each from 33 to 126.
+fn is_short_name(word: &[u8]) -> bool
+    ensures { result ≡ is_name 64 word.now }
+{
+    if word.is_empty() {
+        return false;
+    }
+    word.len() <= 64 && has_name_bytes(word)
+}
+
+fn has_name_bytes(word: &[u8]) -> bool
+    ensures { result ≡ list_all is_name_byte word.now }
+{
+    word.iter().all(|b| *b >= 33 && *b <= 126)
+}
+
+// Whether the error type is that of a normal error.
+fn is_gau(word: &[u8]) -> bool
+    ensures { result ≡ bytes_eq word.now (codes "GAU") }
+{
+    word == b"GAU".as_slice()
+}
