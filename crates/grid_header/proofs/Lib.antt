@@ -1,0 +1,4 @@
+mod ShapeLaws
+mod LimitLaws
+mod ReadingLaws
+mod AnswerLaws

@@ -1,0 +1,43 @@
+-- The first two lines are those that the cursor gave.
+use Rattle.std.proofs.Common.{◌∷◌, inl, inr, sym, ◌∙◌}
+use Rattle.edt_text.specs.LineCursor.{line_text, lines_left}
+use Rattle.grid_header.proofs.ShapeLaws.{if_none, shape-no_line, shape-one_line, shape-long, shape-few, shape-whole, two_given, grid_words-first, source_words-second}
+use Rattle.grid_header.proofs.words.header_words.Goals as goal
+
+pub returns-in_err-first-clause-none : goal.returns-in_err-first-clause-none
+returns-in_err-first-clause-none c =
+    if_none _ (shape-no_line c.args.bytes.now (sym c.new-lines.ensures.lines ∙ c.in_err-first.ensures.end.0))
+
+pub returns-in_err-second-clause-none : goal.returns-in_err-second-clause-none
+returns-in_err-second-clause-none c =
+    if_none _ (shape-one_line c.args.bytes.now (line_text c.in_ok-first.field-0) (rw c.in_err-second.ensures.end.0 at (sym c.new-lines.ensures.lines ∙ c.in_ok-first.ensures.line)))
+
+pub returns-then-first-gt-MOST_BYTES-clause-none : goal.returns-then-first-gt-MOST_BYTES-clause-none
+returns-then-first-gt-MOST_BYTES-clause-none c =
+    let two = two_given _ _ _ _ _ _ c.new-lines.ensures.lines c.in_ok-first.ensures.line c.in_ok-second.ensures.line in
+    shape-long _ _ _ _ two c.then-first-gt-MOST_BYTES.either
+
+pub returns-in_err-grid-clause-none : goal.returns-in_err-grid-clause-none
+returns-in_err-grid-clause-none c =
+    let two = two_given _ _ _ _ _ _ c.new-lines.ensures.lines c.in_ok-first.ensures.line c.in_ok-second.ensures.line in
+    if_none _ (shape-few _ _ _ _ two (inl c.in_err-grid.ensures.none))
+
+pub returns-in_err-source-clause-none : goal.returns-in_err-source-clause-none
+returns-in_err-source-clause-none c =
+    let two = two_given _ _ _ _ _ _ c.new-lines.ensures.lines c.in_ok-first.ensures.line c.in_ok-second.ensures.line in
+    if_none _ (shape-few _ _ _ _ two (inr c.in_err-source.ensures.none))
+
+pub returns-clause-some : goal.returns-clause-some
+returns-clause-some c =
+    let two = two_given _ _ _ _ _ _ c.new-lines.ensures.lines c.in_ok-first.ensures.line c.in_ok-second.ensures.line in
+    let grid = c.in_ok-grid.ensures.some in
+    let one = grid_words-first c.args.bytes.now (line_text c.in_ok-first.field-0) (line_text c.in_ok-second.field-0 ∷ lines_left c.next-2.new.self) two in
+    record {
+      shape = shape-whole _ _ _ _ two c.if-first-gt-MOST_BYTES.false c.if-second-gt-MOST_BYTES.false grid.enough c.in_ok-source.ensures.many;
+      counts = rw one grid.counts;
+      origin = rw one grid.origin;
+      spacing = rw one grid.spacing;
+      kind = rw one grid.kind;
+      body = rw one grid.body;
+      source = rw (source_words-second c.args.bytes.now (line_text c.in_ok-first.field-0) (line_text c.in_ok-second.field-0) (lines_left c.next-2.new.self) two) c.in_ok-source.ensures.some;
+    }

@@ -1,0 +1,6 @@
+pub mod Layout
+pub mod Numbers
+pub mod Causes
+pub mod Reading
+pub mod Parts
+pub mod Fields
