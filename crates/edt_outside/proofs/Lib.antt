@@ -1,0 +1,4 @@
+pub mod CountLemmas
+pub mod EntryLemmas
+pub mod ReadLemmas
+pub mod WriteLemmas
