@@ -1,0 +1,3 @@
+pub mod FalloffLaws
+pub mod GaussTable
+pub mod KernelLaws

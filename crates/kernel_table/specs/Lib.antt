@@ -1,0 +1,2 @@
+pub mod Falloff
+pub mod Kernel
