@@ -1,0 +1,3 @@
+pub mod LeastRoot
+pub mod Scale
+pub mod Weight
