@@ -1,0 +1,25 @@
+use Rattle.std.specs.Prelude.{ℕ, ◌≤◌, ◌*◌}
+
+-- the nodes on each axis of a grid
+pub record GridSize : Type 0 where
+  pub x : ℕ
+  pub y : ℕ
+  pub z : ℕ
+
+-- the size of a grid with these nodes on its axes
+abbrev pub grid_size : ℕ → ℕ → ℕ → GridSize
+grid_size x y z = record { x = x; y = y; z = z }
+
+-- how many nodes a grid has
+abbrev pub node_count : GridSize → ℕ
+node_count g = g.x * g.y * g.z
+
+-- a grid has 1 to 4096 nodes on each axis and at most two million in all
+pub record IsGrid (g : GridSize) : Type 0 where
+  pub x_from : 1 ≤ g.x
+  pub x_to : g.x ≤ 4096
+  pub y_from : 1 ≤ g.y
+  pub y_to : g.y ≤ 4096
+  pub z_from : 1 ≤ g.z
+  pub z_to : g.z ≤ 4096
+  pub nodes : node_count g ≤ 2000000
