@@ -1,0 +1,13 @@
+pub use Rattle.node_boxes.specs.Grid
+pub use Rattle.node_boxes.specs.GridOrder
+pub use Rattle.pair_weights.specs.Scale
+pub use Rattle.pair_weights.specs.Weight
+pub use Rattle.kernel_table.specs.Kernel
+pub use Rattle.kernel_table.specs.Falloff
+pub mod Field
+pub mod Problem
+pub mod Score
+pub mod Scorer
+pub mod PairTerms
+pub mod Pairs
+pub mod Best

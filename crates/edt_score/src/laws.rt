@@ -1,0 +1,28 @@
+ghost use Rattle.std.specs.Prelude.{◌≡◌, ℕ, ℤ, Some, ◌*◌, ◌^◌, ◌<◌, ◌≤◌, ◌-ℤ◌, unsigned_abs};
+ghost use Rattle.kernel_table.specs.declared.kernels.Shape.{Shape};
+ghost use Rattle.pair_weights.specs.Scale.{IsScale};
+ghost use Rattle.edt_score.specs.declared.problem.Problem.{Problem};
+ghost use Rattle.edt_score.specs.declared.problem.ProblemPick.{ProblemPick};
+ghost use Rattle.edt_score.specs.Field.{FieldTimes};
+ghost use Rattle.edt_score.specs.Problem.{IsValidProblem};
+ghost use Rattle.edt_score.specs.Score.{misfit_of, pair_scale, score_of, variance_at};
+ghost use Rattle.edt_score.specs.Best.{IsFirstBest, best_score, first_best};
+
+/// The scale of a pair is the least from 1000 on that the variances at the node allow, a misfit of
+/// near picks fits 64 bits with room, and every score of a valid problem is below 9*10^18.
+pub fn score_law()
+    ensures scale { (a b : ProblemPick) (ta tb : ℕ) → IsScale (variance_at a ta) (variance_at b tb) (pair_scale a b ta tb) }
+    ensures misfit { (oa ob : ℤ) (ta tb : ℕ) → unsigned_abs (oa -ℤ ob) ≤ 2200000000000 → ta ≤ 2000000000 → tb ≤ 2000000000
+        → misfit_of oa ob ta tb ≤ 2202000000000 }
+    ensures bound { (shape : Shape) (times : ℕ → ℕ → ℕ) (field : FieldTimes) (problem : Problem) (node : ℕ) → IsValidProblem field problem
+        → score_of shape times problem.picks.items node < 9 * 10 ^ 18 }
+{}
+
+/// A node is the first best exactly where it is the first of all nodes that has the greatest score;
+/// among any nodes there is one, and that score is the best.
+pub fn best_law()
+    ensures first { (n node : ℕ) (score : ℕ → ℕ) → IsFirstBest n score node → first_best n score ≡ Some node }
+    ensures back { (n node : ℕ) (score : ℕ → ℕ) → first_best n score ≡ Some node → IsFirstBest n score node }
+    ensures score { (n node : ℕ) (score : ℕ → ℕ) → IsFirstBest n score node → best_score n score ≡ score node }
+    ensures exists { (n : ℕ) (score : ℕ → ℕ) → 0 < n → (node : ℕ) × IsFirstBest n score node }
+{}

@@ -1,0 +1,21 @@
+//! The score of a node as the place of an event.
+//!
+//! Observed and travel times are in microseconds. The score of a node is the sum, over all pairs of
+//! picks, of the weight of the pair by the value of the kernel at the pair's misfit and scale. It
+//! measures how well the node fits by equal differential times, an idea of Font et al. 2004, so that
+//! the origin time of the event cancels. Scale, weight and kernel are this project's own.
+#![tactic(auto)]
+
+mod field;
+mod laws;
+mod pairs;
+mod problem;
+mod reduced_times;
+mod scorer;
+#[cfg(test)]
+mod tests;
+
+pub use field::Field;
+pub use laws::{best_law, score_law};
+pub use problem::{Problem, ProblemPick};
+pub use scorer::Scorer;
