@@ -1,0 +1,4 @@
+pub mod ProblemForms
+pub mod ProblemSteps
+pub mod SinkFronts
+pub mod ProblemValid
