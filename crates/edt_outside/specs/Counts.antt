@@ -1,7 +1,7 @@
--- Counts that rise and never fall. Each has a last value, 2 ^ 64 - 1, where it may stand still.
+-- Counts that rise and never fall. Each has a last value, 2 ^ 64 - 1, where it stays.
 use Rattle.std.specs.Prelude.{◌≡◌, ℕ, ◌+◌, ◌-◌, ◌^◌, ◌≤◌, min, Bool, true, false}
 
--- the count rose: it is greater than before, or stands at its last value (or past it, where one counts on)
+-- the count rose: it is greater than before, or stands at its last value
 abbrev pub Rose : ℕ → ℕ → Type 0
 Rose before after = min (before + 1) (2 ^ 64 - 1) ≤ after
 

@@ -1,4 +1,4 @@
-ghost use Rattle.std.specs.Prelude.{◌≡◌, None};
+ghost use Rattle.std.specs.Prelude.{◌≡◌, ◌^◌, ◌<◌, None};
 
 use crate::counts::count_up;
 use crate::faults::{Failed, HasFault, OpenFault};
@@ -19,6 +19,7 @@ pub struct DirShelf<R: Files + Drop> {
     misses: u64,
     lacks: u64,
     calls: u64,
+    ghost bounded: { (faults < 2 ^ 64) × (misses < 2 ^ 64) × (lacks < 2 ^ 64) × (calls < 2 ^ 64) },
 }
 
 impl<R: Files + Drop> DirShelf<R> {

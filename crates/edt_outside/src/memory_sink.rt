@@ -1,4 +1,4 @@
-ghost use Rattle.std.specs.Prelude.{◌≡◌, ◌↔◌, [], ℕ, ◌+◌, ◌-◌, ◌<◌, ◌≤◌, ◌++◌, length, min, take, Some, IfOk, OnErr, IsErr, Contains};
+ghost use Rattle.std.specs.Prelude.{◌≡◌, ◌↔◌, [], ℕ, ◌+◌, ◌-◌, ◌^◌, ◌<◌, ◌≤◌, ◌++◌, length, min, take, Some, IfOk, OnErr, IsErr, Contains};
 ghost use Rattle.std.specs.Result.{result_unwrap_or};
 ghost use Rattle.edt_outside.specs.Counts.{Rose, one_more, one_more_if};
 ghost use Rattle.edt_outside.specs.MemorySinks.{is_fault};
@@ -79,6 +79,7 @@ impl Sink for MemorySink {
         ensures took_nothing { IfOk result (λ n. n ≡ 0 → 0 < length piece.now → Rose self.old.faults self.new.faults) }
         ensures took_some { IfOk result (λ n. 0 < n → self.new.faults ≡ self.old.faults) }
         ensures empty_piece { IfOk result (λ _. length piece.now ≡ 0 → self.new.faults ≡ self.old.faults) }
+        ensures bounded { self.new.faults < 2 ^ 64 }
 
         // Beyond what every sink does.
         ensures fails { IsErr result ↔ Contains self.old.failing self.new.writes }

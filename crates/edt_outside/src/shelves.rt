@@ -1,4 +1,4 @@
-ghost use Rattle.std.specs.Prelude.{◌≡◌, List, [], ℕ, ◌+◌, ◌≤◌, length, is_err, Option, IfSome, IfOk, OnErr};
+ghost use Rattle.std.specs.Prelude.{◌≡◌, List, [], ℕ, ◌+◌, ◌^◌, ◌<◌, ◌≤◌, length, is_err, Option, IfSome, IfOk, OnErr};
 ghost use Rattle.edt_outside.specs.Counts.{RisesExactly};
 ghost use Rattle.edt_outside.specs.HasFaults.{has_failed, is_lacking, Tells};
 ghost use Rattle.edt_outside.specs.OpenFaults.{open_failed, open_absent, Opens};
@@ -10,7 +10,7 @@ use crate::faults::{Failed, HasFault, OpenFault};
 ///
 /// A clause may name what a shelf tells: `files`, its files, which no call changes, and `left`, the
 /// unread bytes of the file that was opened last. Either is an option, since a shelf need not tell.
-/// Its counts never fall, and rise up to 2^64 - 1, where one may stand still: `faults` with each call
+/// Its counts are from 0 to 2^64 - 1, never fall, and stay at that last value: `faults` rises with each call
 /// that fails, `misses` with each file that is absent at `open_file`, `lacks` with each that `has`
 /// does not find, and `calls` with a call. No count rises for anything else. A shelf begins with an
 /// empty `left` where it is told.
@@ -36,7 +36,8 @@ pub trait Shelf {
         ensures misses { misses self.new ≡ misses self.old }
         ensures lacks { RisesExactly (is_lacking result) (lacks self.old) (lacks self.new) }
         ensures calls_stay { calls self.old ≤ calls self.new }
-        ensures one_call { calls self.new ≤ calls self.old + 1 };
+        ensures one_call { calls self.new ≤ calls self.old + 1 }
+        ensures bounded { (faults self.new < 2 ^ 64) × (misses self.new < 2 ^ 64) × (lacks self.new < 2 ^ 64) × (calls self.new < 2 ^ 64) };
 
     /// Opens the file of this name, in place of the one that was open. After a refusal no file is
     /// open.
@@ -48,7 +49,8 @@ pub trait Shelf {
         ensures misses { RisesExactly (open_absent result) (misses self.old) (misses self.new) }
         ensures lacks { lacks self.new ≡ lacks self.old }
         ensures calls_stay { calls self.old ≤ calls self.new }
-        ensures one_call { calls self.new ≤ calls self.old + 1 };
+        ensures one_call { calls self.new ≤ calls self.old + 1 }
+        ensures bounded { (faults self.new < 2 ^ 64) × (misses self.new < 2 ^ 64) × (lacks self.new < 2 ^ 64) × (calls self.new < 2 ^ 64) };
 
     /// Reads some of the unread bytes of the open file into the front of `into`, and answers how
     /// many. Into a nonempty slice that is 0 only at the file's end, or where no file is open. A
@@ -62,5 +64,6 @@ pub trait Shelf {
         ensures misses { misses self.new ≡ misses self.old }
         ensures lacks { lacks self.new ≡ lacks self.old }
         ensures calls_stay { calls self.old ≤ calls self.new }
-        ensures one_call { calls self.new ≤ calls self.old + 1 };
+        ensures one_call { calls self.new ≤ calls self.old + 1 }
+        ensures bounded { (faults self.new < 2 ^ 64) × (misses self.new < 2 ^ 64) × (lacks self.new < 2 ^ 64) × (calls self.new < 2 ^ 64) };
 }

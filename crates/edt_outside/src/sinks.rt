@@ -1,4 +1,4 @@
-ghost use Rattle.std.specs.Prelude.{◌≡◌, List, ℕ, ◌<◌, ◌≤◌, length, take, Option, IfOk, OnErr};
+ghost use Rattle.std.specs.Prelude.{◌≡◌, List, ℕ, ◌^◌, ◌<◌, ◌≤◌, length, take, Option, IfOk, OnErr};
 ghost use Rattle.edt_outside.specs.Counts.{Rose};
 ghost use Rattle.edt_outside.specs.Sinks.{Appends};
 
@@ -7,8 +7,8 @@ use crate::faults::Failed;
 /// An output that takes bytes.
 ///
 /// A clause may name what a sink tells: `taken`, the bytes taken so far, an option, since a sink need
-/// not tell. Its count `faults` never falls, and rises up to 2^64 - 1, where it may stand still: with
-/// each write that fails or takes nothing of a nonempty piece, and for nothing else.
+/// not tell. Its count `faults` is from 0 to 2^64 - 1, never falls and stays at that last value. It
+/// rises with each write that fails or takes nothing of a nonempty piece, and for nothing else.
 pub trait Sink {
     ghost taken: { Self → Option (List ℕ) };
 
@@ -24,5 +24,6 @@ pub trait Sink {
         ensures failed { OnErr result (Rose (faults self.old) (faults self.new)) }
         ensures took_nothing { IfOk result (λ n. n ≡ 0 → 0 < length piece.now → Rose (faults self.old) (faults self.new)) }
         ensures took_some { IfOk result (λ n. 0 < n → faults self.new ≡ faults self.old) }
-        ensures empty_piece { IfOk result (λ _. length piece.now ≡ 0 → faults self.new ≡ faults self.old) };
+        ensures empty_piece { IfOk result (λ _. length piece.now ≡ 0 → faults self.new ≡ faults self.old) }
+        ensures bounded { faults self.new < 2 ^ 64 };
 }

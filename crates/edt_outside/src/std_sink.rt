@@ -1,4 +1,4 @@
-ghost use Rattle.std.specs.Prelude.{◌≡◌, None};
+ghost use Rattle.std.specs.Prelude.{◌≡◌, ◌^◌, ◌<◌, None};
 
 use crate::counts::count_up;
 use crate::faults::Failed;
@@ -13,6 +13,7 @@ use std::io::{Stderr, Stdout, Write};
 pub struct StdSink<W: Write + Drop> {
     output: W,
     faults: u64,
+    ghost bounded: { faults < 2 ^ 64 },
 }
 
 impl StdSink<Stdout> {

@@ -1,5 +1,5 @@
 -- The status and the line of each refusal.
-use Rattle.std.specs.Prelude.{ℕ, List, Result, Ok, Err}
+use Rattle.std.specs.Prelude.{ℕ, ◌≤◌, List, Result, Ok, Err, ⊤}
 use Rattle.edt_top.specs.declared.refusals.Refusal.{Refusal}
 use Rattle.edt_top.specs.declared.refusals.Refusal.TheVariants.{Problem, TooLong, Memory, Read, Write, Absent}
 use Rattle.edt_top.specs.RunLines.{problem_line, too_long_line, memory_line, read_line, write_line, absent_line}
@@ -31,3 +31,13 @@ status_after (Err refusal) = status_of refusal
 abbrev pub ToldAfter : (List ℕ → Type 0) → Type 0 → List ℕ → Result (Unit {0}) Refusal → Type 0
 ToldAfter Tells Stays name (Ok _) = Stays
 ToldAfter Tells Stays name (Err refusal) = Tells (line_of_refusal name refusal)
+
+-- a faulty word is counted from 1
+abbrev pub IsCounted : Result (Unit {0}) Refusal → Type 0
+IsCounted (Ok _) = ⊤
+IsCounted (Err (Problem fault)) = 1 ≤ fault.word
+IsCounted (Err TooLong) = ⊤
+IsCounted (Err Memory) = ⊤
+IsCounted (Err Read) = ⊤
+IsCounted (Err Write) = ⊤
+IsCounted (Err Absent) = ⊤

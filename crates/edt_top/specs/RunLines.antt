@@ -1,5 +1,5 @@
 -- The line that a refusal writes to standard error.
-use Rattle.std.specs.Prelude.{◌≡◌, ℕ, ◌++◌, List, [], ◌∷◌, take, Option, codes, decimal, ◌⊎◌}
+use Rattle.std.specs.Prelude.{◌≡◌, ◌≤◌, ℕ, ◌++◌, List, [], ◌∷◌, take, Option, codes, decimal, ◌⊎◌}
 use Rattle.edt_outside.specs.Counts.{Rose}
 use Rattle.edt_outside.specs.Sinks.{Appends}
 use Rattle.edt_top.specs.declared.problem_word.ProblemCause.{ProblemCause}
@@ -28,7 +28,7 @@ too_long_line = line_of (codes "edtloc: problem TooLong 0")
 
 -- the line of a problem file that has no reading or passes its limit
 abbrev pub IsProblemLine : List ℕ → Type 0
-IsProblemLine line = ((cause : ProblemCause) × (word : ℕ) × (line ≡ problem_line cause word)) ⊎ (line ≡ too_long_line)
+IsProblemLine line = ((cause : ProblemCause) × (word : ℕ) × (1 ≤ word) × (line ≡ problem_line cause word)) ⊎ (line ≡ too_long_line)
 
 -- want of memory
 abbrev pub memory_line : List ℕ

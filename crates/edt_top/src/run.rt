@@ -5,7 +5,7 @@ ghost use Rattle.edt_outside.specs.Counts.{RisesExactly, Rose};
 ghost use Rattle.edt_outside.specs.Sinks.{Appends};
 ghost use Rattle.edt_top.specs.RunWords.{solve_name, file_named};
 ghost use Rattle.edt_top.specs.RunLines.{Told, IsProblemLine, words_line, memory_line, read_line, write_line, absent_line};
-ghost use Rattle.edt_top.specs.Refusals.{status_after, ToldAfter};
+ghost use Rattle.edt_top.specs.Refusals.{status_after, ToldAfter, IsCounted};
 ghost use Rattle.edt_top.specs.Runs.{Ends, read_failed, was_absent, write_failed, Finds, Solves, Refuses, is_one_of};
 
 use crate::problem_file::ReadRefusal;
@@ -46,21 +46,29 @@ pub fn locate_run<S: Shelf, O: Sink, E: Sink>(
     // What each status says, where the shelf tells its files.
     ensures no_shape { (result ≡ 2) ↔ (solve_name (map string_bytes words.now) ≡ None) }
     ensures solved { IfSome (S.files shelf.old) (λ files. result ≡ 0
-        → Solves files (map string_bytes words.now) (λ text. Appends (O.taken out.old) (O.taken out.new) text)) }
+        → Solves files (map string_bytes words.now)
+        (λ text. Appends (O.taken out.old) (O.taken out.new) text)) }
     ensures refused { IfSome (S.files shelf.old) (λ files. result ≡ 4
-        → Refuses files (map string_bytes words.now) (λ line. Told (E.taken err.old) (E.taken err.new) (E.faults err.old) (E.faults err.new) line)) }
+        → Refuses files (map string_bytes words.now)
+        (λ line. Told (E.taken err.old) (E.taken err.new) (E.faults err.old) (E.faults err.new) line)) }
     ensures cut_short { IfSome (S.files shelf.old) (λ files. result ≡ 8
-        → Solves files (map string_bytes words.now) (λ text. (n : ℕ) × (n < length text) × Appends (O.taken out.old) (O.taken out.new) (take n text))) }
-    ensures absent { IfSome (S.files shelf.old) (λ files. result ≡ 9 → Finds files (map string_bytes words.now) None) }
+        → Solves files (map string_bytes words.now)
+        (λ text. (n : ℕ) × (n < length text) × Appends (O.taken out.old) (O.taken out.new) (take n text))) }
+    ensures absent { IfSome (S.files shelf.old) (λ files.
+        result ≡ 9 → Finds files (map string_bytes words.now) None) }
 
     // And where each status comes.
-    ensures solves { IfSome (S.files shelf.old) (λ files. Solves files (map string_bytes words.now) (λ _. ⊤)
+    ensures solves { IfSome (S.files shelf.old) (λ files.
+        Solves files (map string_bytes words.now) (λ _. ⊤)
         → IsTrue (is_one_of result (0 ∷ 6 ∷ 7 ∷ 8 ∷ []))) }
-    ensures refuses { IfSome (S.files shelf.old) (λ files. Refuses files (map string_bytes words.now) (λ _. ⊤)
+    ensures refuses { IfSome (S.files shelf.old) (λ files.
+        Refuses files (map string_bytes words.now) (λ _. ⊤)
         → IsTrue (is_one_of result (4 ∷ 6 ∷ 7 ∷ []))) }
-    ensures misses_file { IfSome (S.files shelf.old) (λ files. Finds files (map string_bytes words.now) None
+    ensures misses_file { IfSome (S.files shelf.old) (λ files.
+        Finds files (map string_bytes words.now) None
         → IsTrue (is_one_of result (6 ∷ 7 ∷ 9 ∷ []))) }
-    ensures complete { IfSome (S.files shelf.old) (λ files. Solves files (map string_bytes words.now) (λ _. ⊤)
+    ensures complete { IfSome (S.files shelf.old) (λ files.
+        Solves files (map string_bytes words.now) (λ _. ⊤)
         → (Rose (S.faults shelf.old) (S.faults shelf.new) → ⊥) → (Rose (O.faults out.old) (O.faults out.new) → ⊥)
         → IsTrue (is_one_of result (0 ∷ 6 ∷ []))) }
 
@@ -77,14 +85,25 @@ pub fn locate_run<S: Shelf, O: Sink, E: Sink>(
     ensures ended { result ≡ 0 → OnSome (S.files shelf.old) (S.left shelf.new ≡ Some []) }
     ensures silent { result ≢ 0 → result ≢ 8 → O.taken out.new ≡ O.taken out.old }
 
-    // The line to `err`, whole where no fault of it rose, else a front of it. That of status 4 stands above for a shelf that tells its files.
-    ensures line_done { result ≡ 0 → (E.taken err.new ≡ E.taken err.old) × (E.faults err.new ≡ E.faults err.old) }
-    ensures line_words { result ≡ 2 → Told (E.taken err.old) (E.taken err.new) (E.faults err.old) (E.faults err.new) words_line }
-    ensures line_problem { result ≡ 4 → (line : List ℕ) × IsProblemLine line × Told (E.taken err.old) (E.taken err.new) (E.faults err.old) (E.faults err.new) line }
-    ensures line_memory { result ≡ 6 → Told (E.taken err.old) (E.taken err.new) (E.faults err.old) (E.faults err.new) memory_line }
-    ensures line_read { result ≡ 7 → Told (E.taken err.old) (E.taken err.new) (E.faults err.old) (E.faults err.new) (read_line (file_named (map string_bytes words.now))) }
-    ensures line_write { result ≡ 8 → Told (E.taken err.old) (E.taken err.new) (E.faults err.old) (E.faults err.new) write_line }
-    ensures line_absent { result ≡ 9 → Told (E.taken err.old) (E.taken err.new) (E.faults err.old) (E.faults err.new) (absent_line (file_named (map string_bytes words.now))) }
+    // The line to `err`, whole where no fault of it rose, else a prefix of it. That of status 4 stands above for a shelf
+    // that tells its files.
+    ensures line_done { result ≡ 0
+        → (E.taken err.new ≡ E.taken err.old) × (E.faults err.new ≡ E.faults err.old) }
+    ensures line_words { result ≡ 2
+        → Told (E.taken err.old) (E.taken err.new) (E.faults err.old) (E.faults err.new) words_line }
+    ensures line_problem { result ≡ 4
+        → (line : List ℕ) × IsProblemLine line
+        × Told (E.taken err.old) (E.taken err.new) (E.faults err.old) (E.faults err.new) line }
+    ensures line_memory { result ≡ 6
+        → Told (E.taken err.old) (E.taken err.new) (E.faults err.old) (E.faults err.new) memory_line }
+    ensures line_read { result ≡ 7
+        → Told (E.taken err.old) (E.taken err.new)
+        (E.faults err.old) (E.faults err.new) (read_line (file_named (map string_bytes words.now))) }
+    ensures line_write { result ≡ 8
+        → Told (E.taken err.old) (E.taken err.new) (E.faults err.old) (E.faults err.new) write_line }
+    ensures line_absent { result ≡ 9
+        → Told (E.taken err.old) (E.taken err.new)
+        (E.faults err.old) (E.faults err.new) (absent_line (file_named (map string_bytes words.now))) }
 {
     let Some(name) = solve_name(words) else {
         tell_words(err);
@@ -97,7 +116,9 @@ pub fn locate_run<S: Shelf, O: Sink, E: Sink>(
 // Tells of a refusal, and answers the status of the run.
 fn finish<E: Sink>(err: &mut E, name: &str, ended: &Result<(), Refusal>) -> u8
     ensures status { result ≡ status_after ended.now }
-    ensures told { ToldAfter (Told (E.taken err.old) (E.taken err.new) (E.faults err.old) (E.faults err.new)) ((E.taken err.new ≡ E.taken err.old) × (E.faults err.new ≡ E.faults err.old)) name.now ended.now }
+    ensures told { ToldAfter
+        (Told (E.taken err.old) (E.taken err.new) (E.faults err.old) (E.faults err.new))
+        ((E.taken err.new ≡ E.taken err.old) × (E.faults err.new ≡ E.faults err.old)) name.now ended.now }
 {
     match ended {
         Ok(()) => 0,
@@ -117,7 +138,8 @@ fn solve<S: Shelf, O: Sink>(
     shelf: &mut S,
     out: &mut O,
 ) -> Result<(), Refusal>
-    ensures told { IfSome (S.files shelf.old) (λ files. Ends (files name.now) result (O.taken out.old) (O.taken out.new)) }
+    ensures told { IfSome (S.files shelf.old) (λ files.
+        Ends (files name.now) result (O.taken out.old) (O.taken out.new)) }
     ensures silent { write_failed result ≡ false → IfErr result (λ _. O.taken out.new ≡ O.taken out.old) }
     ensures same_files { S.files shelf.new ≡ S.files shelf.old }
     ensures faults { RisesExactly (read_failed result) (S.faults shelf.old) (S.faults shelf.new) }
@@ -126,6 +148,7 @@ fn solve<S: Shelf, O: Sink>(
     ensures calls { S.calls shelf.new ≤ S.calls shelf.old + 16777219 }
     ensures ended { OnOk result (OnSome (S.files shelf.old) (S.left shelf.new ≡ Some [])) }
     ensures writes { RisesExactly (write_failed result) (O.faults out.old) (O.faults out.new) }
+    ensures counted { IsCounted result }
 {
     let bytes = match read_all(alloc, shelf, name, MOST_BYTES) {
         Ok(bytes) => bytes,

@@ -5,7 +5,7 @@ use Rattle.edt_top.specs.declared.refusals.Refusal.{Refusal}
 use Rattle.edt_top.specs.declared.refusals.Refusal.TheVariants.{Problem, TooLong, Memory, Read, Write, Absent}
 use Rattle.edt_top.specs.RunWords.{solve_name}
 use Rattle.edt_top.specs.RunLines.{Told, IsProblemLine, problem_line, too_long_line}
-use Rattle.edt_top.specs.Refusals.{status_after, ToldAfter}
+use Rattle.edt_top.specs.Refusals.{status_after, ToldAfter, IsCounted}
 use Rattle.edt_top.specs.Runs.{Ends, Refuses}
 use Rattle.edt_top.proofs.run.locate_run.Goals as goal
 
@@ -25,15 +25,15 @@ refused (Some f) words name (Err Write) before after status Tells Stays named en
 refused (Some f) words name (Err Absent) before after status Tells Stays named ends told is = λ four. absurd (omega arith)
 
 -- on every shelf, the line is one of a problem file
-problem_told : (name : List ℕ) (ended : Result (Unit {0}) Refusal) (status : ℕ) (Tells : List ℕ → Type 0) (Stays : Type 0)
+problem_told : (name : List ℕ) (ended : Result (Unit {0}) Refusal) (status : ℕ) (Tells : List ℕ → Type 0) (Stays : Type 0) → IsCounted ended
     → ToldAfter Tells Stays name ended → status ≡ status_after ended → status ≡ 4 → (line : List ℕ) × IsProblemLine line × Tells line
-problem_told name (Ok _) status Tells Stays told is four = absurd (omega arith)
-problem_told name (Err (Problem fault)) status Tells Stays told is four = (problem_line fault.cause fault.word, inl (fault.cause, fault.word, refl), told)
-problem_told name (Err TooLong) status Tells Stays told is four = (too_long_line, inr refl, told)
-problem_told name (Err Memory) status Tells Stays told is four = absurd (omega arith)
-problem_told name (Err Read) status Tells Stays told is four = absurd (omega arith)
-problem_told name (Err Write) status Tells Stays told is four = absurd (omega arith)
-problem_told name (Err Absent) status Tells Stays told is four = absurd (omega arith)
+problem_told name (Ok _) status Tells Stays counted told is four = absurd (omega arith)
+problem_told name (Err (Problem fault)) status Tells Stays counted told is four = (problem_line fault.cause fault.word, inl (fault.cause, fault.word, counted, refl), told)
+problem_told name (Err TooLong) status Tells Stays counted told is four = (too_long_line, inr refl, told)
+problem_told name (Err Memory) status Tells Stays counted told is four = absurd (omega arith)
+problem_told name (Err Read) status Tells Stays counted told is four = absurd (omega arith)
+problem_told name (Err Write) status Tells Stays counted told is four = absurd (omega arith)
+problem_told name (Err Absent) status Tells Stays counted told is four = absurd (omega arith)
 
 pub returns-clause-refused : goal.returns-clause-refused
 returns-clause-refused g c =
@@ -48,4 +48,4 @@ returns-clause-line_problem g c =
     problem_told c.in-Some.name.now c.solve-ended.result c.finish.result
     (Told (g.E.Sink.taken c.args.err.now) (g.E.Sink.taken c.finish.new.err) (g.E.Sink.faults c.args.err.now) (g.E.Sink.faults c.finish.new.err))
     ((g.E.Sink.taken c.finish.new.err ≡ g.E.Sink.taken c.args.err.now) × (g.E.Sink.faults c.finish.new.err ≡ g.E.Sink.faults c.args.err.now))
-    c.finish.ensures.told c.finish.ensures.status
+    c.solve-ended.ensures.counted c.finish.ensures.told c.finish.ensures.status
