@@ -1,17 +1,18 @@
 -- What the words of a pick mean, where they mean something.
-use Rattle.std.proofs.Common.{◌≡◌, ℕ, ◌<◌, ◌≤◌, true, false, List, Option, Some, None, ℤ, pos, to_z, w8, w16, inl, inr, refl, ◌∙◌, arith}
+use Rattle.std.proofs.Common.{◌≡◌, ℕ, zero, suc, ◌+◌, ◌*◌, ◌-ℤ◌, ◌<◌, ◌≤◌, true, false, List, Option, Some, None, ℤ, pos, to_z, w8, w16, inl, inr, refl, ◌∙◌, arith}
 use Rattle.std.specs.Prelude.{nat_le, ◌&&◌, if◌then◌else◌}
 use Rattle.std.specs.Option.{option_map}
 use Rattle.std.specs.Int.{int_div_euclid}
 use Rattle.std.proofs.lemmas.Grind.{common_steps}
 use Rattle.std.proofs.lemmas.Int.{ints}
-use Rattle.jiff_core.specs.Calendar.{IsDate, days_in_month, days_from_civil}
+use Rattle.jiff_core.specs.Calendar.{IsDate, IsEpochDay, is_leap_year, days_in_month, days_in_year, days_of_years, day_count, days_from_civil}
+use Rattle.jiff_core.proofs.CalendarLemmas.{days_from_civil-day_count}
 use Rattle.jiff_core.specs.Date.{IsYmd}
 use Rattle.jiff_core.specs.declared.civil.date.Date.{Date}
 use Rattle.text_terms.proofs.Cases.{by_bool}
 use Rattle.fixed_decimal.specs.Value.{millionths_of}
 use Rattle.phase_reader.specs.PickFields.{digits_of, year_of, month_of, day_of, is_date, is_clock, date_of, clock_of, clock_microseconds, weight_of, day_number}
-use Rattle.phase_reader.specs.PickDays.{civil_day}
+use Rattle.phase_reader.specs.PickDays.{civil_day, IsPickDay}
 use Rattle.phase_reader.specs.declared.values.CivilDay.{CivilDay}
 
 -- a word that is no number is no date and no clock
@@ -92,3 +93,33 @@ weight_some word m e = rw e refl
 pub weight_none : pos 1000 ≡ weight_of None
 unfolding weight_of
 weight_none = refl
+
+-- a year has at least 365 days
+year_days : (y : ℤ) → 365 ≤ days_in_year y
+year_days y = elim (by_bool (is_leap_year y)) [
+  | inl leap ↦ rw leap (omega arith)
+  | inr common ↦ rw common (omega arith)
+]
+
+years_days : (n : ℕ) → 365 * n ≤ days_of_years n
+unfolding days_of_years
+years_days zero = omega arith
+years_days (suc n) = omega (arith, years_days n, year_days (pos n -ℤ pos 10000))
+
+-- a day of the years from 1000 on that the library has
+counted_days : (y m d : ℕ) → 365 * (y + 10000) ≤ day_count (pos y) m d
+unfolding day_count
+counted_days y m d = omega (arith, years_days (y + 10000))
+
+pub pick_day : (y m d : ℕ) → 1000 ≤ y → IsEpochDay (days_from_civil (pos y) m d) → IsPickDay (days_from_civil (pos y) m d)
+pick_day y m d from is = omega (arith, ints, is.0, is.1, days_from_civil-day_count (pos y) m d, counted_days y m d)
+
+-- the day number that the calendar finds for a number
+pub day_found : (n year : ℕ) (number : ℤ) (date : Date) → year ≡ year_of n → (nat_le 1000 (year_of n) && nat_le (year_of n) 9998) ≡ true
+    → date.year ≡ to_z w16 year → number ≡ days_from_civil date.year date.month date.day → IsEpochDay number → IsPickDay number
+day_found n year number date ey years named count is =
+    let least : 1000 ≤ year_of n = grind (arith, common_steps) in
+    let most : year_of n ≤ 9998 = grind (arith, common_steps) in
+    let at_year : date.year ≡ pos (year_of n) = named ∙ rw ey (small16 (year_of n) (omega arith)) in
+    let counted : number ≡ days_from_civil (pos (year_of n)) date.month date.day = rw at_year at count in
+    rw counted (pick_day (year_of n) date.month date.day least (rw counted at is))

@@ -1,4 +1,5 @@
 pub mod ListLaws
+pub mod LimitSteps
 pub mod EventLaws
 pub mod DraftSteps
 pub mod DigitLaws

@@ -6,3 +6,4 @@ pub mod PickDays
 pub mod PhaseEvents
 pub mod PhaseFile
 pub mod Drafts
+pub mod Limits

@@ -1,5 +1,5 @@
 //! A phase file that is read line by line.
-ghost use Rattle.std.specs.Prelude.{◌≡◌, ◌≢◌, ◌+◌, ◌<◌, ◌≤◌, [], ◌∷◌, ◌++◌, List, IsTrue, OnOk, OnErr, IfOk, IfErr, length, false, codes, ℕ};
+ghost use Rattle.std.specs.Prelude.{◌≡◌, ◌≢◌, ◌+◌, ◌<◌, ◌≤◌, [], ◌∷◌, ◌++◌, List, IsTrue, OnOk, OnErr, IfOk, IfErr, All, length, false, codes, ℕ};
 ghost use Rattle.std.specs.List.{list_all};
 ghost use Rattle.std.specs.Str.{bytes_eq};
 ghost use Rattle.text_terms.specs.Names.{is_name, is_name_byte};
@@ -12,6 +12,7 @@ ghost use Rattle.phase_reader.specs.PickFaults.{words_fault, pick_fault};
 ghost use Rattle.phase_reader.specs.PhaseEvents.{passes_limit};
 ghost use Rattle.phase_reader.specs.PhaseFile.{fault_after, picks_of_events};
 ghost use Rattle.phase_reader.specs.Drafts.{field_words, as_event, Follows};
+ghost use Rattle.phase_reader.specs.Limits.{IsPick, IsEvent, IsDraft};
 
 use crate::fault::PhaseCause;
 use crate::fields::{Fields, read_fields};
@@ -44,7 +45,8 @@ pub(crate) struct Draft {
 impl Draft {
     /// The draft of no lines.
     pub(crate) fn new(alloc: Global) -> Draft
-        ensures { Follows [] result }
+        ensures follows { Follows [] result }
+        ensures limits { IsDraft result }
     {
         Draft {
             events: Vec::new(alloc),
@@ -62,6 +64,7 @@ impl Draft {
     ) -> Result<(), PhaseCause>
         requires { self.old.passed < number }
         ensures room { self.new.passed ≤ number }
+        ensures limits { IsDraft self.old → OnOk result (IsDraft self.new) }
         ensures follows { OnOk result ((before : List NumberedLine) → Follows before self.old → Follows (before ++ (number, line.now) ∷ []) self.new) }
         ensures good { OnOk result ((before : List NumberedLine) → Follows before self.old → fault_after before (number, line.now) ≡ None) }
         ensures fault { IfErr result (λ cause. cause ≢ PhaseCause.Memory → (before : List NumberedLine) → Follows before self.old → fault_after before (number, line.now) ≡ Some cause) }
@@ -92,6 +95,7 @@ impl Draft {
         ensures memory { IfErr result (λ cause. cause ≡ PhaseCause.Memory) }
         ensures events { IfOk result (λ phases. picks_of_events phases.events.items ≡ picks_of_events self.events.items ++ as_event self.picks.items) }
         ensures passed { IfOk result (λ phases. phases.passed ≡ self.passed) }
+        ensures limits { IsDraft self → IfOk result (λ phases. All IsEvent phases.events.items) }
     {
         self.end_event(alloc)?;
         Ok(Phases {
@@ -106,6 +110,7 @@ impl Draft {
         ensures events { OnOk result (picks_of_events self.new.events.items ≡ picks_of_events self.old.events.items ++ as_event self.old.picks.items) }
         ensures picks { OnOk result (self.new.picks.items ≡ []) }
         ensures passed { self.new.passed ≡ self.old.passed }
+        ensures limits { IsDraft self.old → OnOk result (IsDraft self.new) }
     {
         if self.picks.is_empty() {
             return Ok(());
@@ -122,6 +127,7 @@ impl Draft {
         ensures events { self.new.events ≡ self.old.events }
         ensures passed { self.new.passed ≡ self.old.passed }
         ensures picks { OnOk result (self.new.picks.items ≡ self.old.picks.items ++ pick ∷ []) }
+        ensures limits { IsDraft self.old → IsPick pick → OnOk result (IsDraft self.new) }
         ensures good { OnOk result (passes_limit (length self.old.events.items) self.old.picks.items pick.time ≡ false) }
         ensures fault { IfErr result (λ cause. cause ≢ PhaseCause.Memory → (cause ≡ PhaseCause.Limit) × IsTrue (passes_limit (length self.old.events.items) self.old.picks.items pick.time)) }
     {
@@ -150,6 +156,7 @@ impl Draft {
 // The pick that the words of a line mean, or the first fault in them.
 fn read_pick(alloc: Global, line: u32, fields: &Fields) -> Result<Pick, PhaseCause>
     ensures pick { IfOk result (λ pick. pick ≡ pick_of_words line (field_words fields.now)) }
+    ensures limits { IfOk result IsPick }
     ensures good { OnOk result (words_fault (field_words fields.now) ≡ None) }
     ensures fault { IfErr result (λ cause. cause ≢ PhaseCause.Memory → words_fault (field_words fields.now) ≡ Some cause) }
 {

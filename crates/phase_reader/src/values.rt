@@ -1,12 +1,11 @@
 //! What the words of a pick mean.
-ghost use Rattle.std.specs.Prelude.{◌≡◌, ◌+◌, ◌*◌, ◌<◌, ◌≤◌, ◌^◌, ◌+ℤ◌, ◌*ℤ◌, ◌&&◌, nat_le, if◌then◌else◌, pos, length, is_some, IsTrue, IfOk, IfErr, IfSome, IfNone, OnErr, option_copied, false};
+ghost use Rattle.std.specs.Prelude.{◌≡◌, ◌+◌, ◌*◌, ◌<◌, ◌≤◌, ◌^◌, ◌+ℤ◌, ◌*ℤ◌, ◌&&◌, nat_le, if◌then◌else◌, pos, unsigned_abs, length, is_some, IsTrue, IfOk, IfErr, IfSome, IfNone, OnErr, option_copied, false};
 ghost use Rattle.std.specs.Option.{option_map};
 ghost use Rattle.std.specs.Result.{result_ok};
-ghost use Rattle.jiff_core.specs.Calendar.{IsEpochDay};
 ghost use Rattle.fixed_decimal.specs.Value.{millionths_of};
 ghost use Rattle.phase_reader.specs.PickFields.{digits_of, date_of, clock_of, clock_microseconds, is_date, is_clock, is_seconds, weight_of};
 ghost use Rattle.phase_reader.specs.PickFaults.{seconds_fault, is_weight};
-ghost use Rattle.phase_reader.specs.PickDays.{civil_day};
+ghost use Rattle.phase_reader.specs.PickDays.{civil_day, IsPickDay};
 
 use crate::fault::PhaseCause;
 use fixed_decimal::read_millionths;
@@ -24,7 +23,7 @@ pub(crate) struct CivilDay {
 /// The day that a word yyyymmdd names, if it is one of the Gregorian calendar in the years 1000 to 9998.
 pub(crate) fn read_date(word: &[u8]) -> Option<CivilDay>
     ensures day { result ≡ option_map civil_day (date_of word.now) }
-    ensures bound { IfSome result (λ day. IsEpochDay day.number) }
+    ensures bound { IfSome result (λ day. IsPickDay day.number) }
 {
     let number = read_digits(word, 8)?;
     day_of_number(number)
@@ -34,7 +33,7 @@ pub(crate) fn read_date(word: &[u8]) -> Option<CivilDay>
 fn day_of_number(number: u32) -> Option<CivilDay>
     requires { number < 100000000 }
     ensures day { result ≡ (if is_date number then Some (civil_day number) else None) }
-    ensures bound { IfSome result (λ day. IsEpochDay day.number) }
+    ensures bound { IfSome result (λ day. IsPickDay day.number) }
 {
     let (year, month, day) = (number / 10_000, number / 100 % 100, number % 100);
     if !is_year_in_range(year) {
@@ -85,10 +84,11 @@ fn is_minute(number: u32) -> bool
 
 /// The time of a day, the microseconds up to its minute and the seconds, in microseconds from the start of 1970-01-01.
 pub(crate) fn time_at(day: i64, clock: u64, seconds: i64) -> i64
-    requires day { IsEpochDay day }
+    requires day { IsPickDay day }
     requires clock { clock < 86400000000 }
     requires seconds { IsTrue (is_seconds seconds) }
-    ensures { result ≡ (day *ℤ pos 86400000000) +ℤ pos clock +ℤ seconds }
+    ensures value { result ≡ (day *ℤ pos 86400000000) +ℤ pos clock +ℤ seconds }
+    ensures bound { unsigned_abs result ≤ 3 * 10 ^ 17 }
 {
     day * 86_400_000_000 + clock as i64 + seconds
 }
@@ -109,6 +109,7 @@ pub(crate) fn read_seconds(word: &[u8]) -> Result<i64, PhaseCause>
 /// A decimal in millionths, or else `Number`.
 pub(crate) fn read_decimal(word: &[u8]) -> Result<i64, PhaseCause>
     ensures value { IfOk result (λ value. millionths_of word.now ≡ Some value) }
+    ensures small { IfOk result (λ value. unsigned_abs value < 10 ^ 15) }
     ensures none { OnErr result (millionths_of word.now ≡ None) }
     ensures fault { IfErr result (λ cause. cause ≡ PhaseCause.Number) }
 {
@@ -121,6 +122,7 @@ pub(crate) fn read_decimal(word: &[u8]) -> Result<i64, PhaseCause>
 /// A prior weight in thousandths, cut downwards, and 1000 without a word. Where the word is no decimal it is `Number`.
 pub(crate) fn read_weight(word: Option<&[u8]>) -> Result<i64, PhaseCause>
     ensures value { IfOk result (λ weight. weight ≡ weight_of (option_copied word.entry)) }
+    ensures small { IfOk result (λ weight. unsigned_abs weight ≤ 10 ^ 12) }
     ensures good { IfOk result (λ _. IsTrue (is_weight (option_copied word.entry))) }
     ensures bad { OnErr result (is_weight (option_copied word.entry) ≡ false) }
     ensures fault { IfErr result (λ cause. cause ≡ PhaseCause.Number) }
@@ -134,6 +136,7 @@ pub(crate) fn read_weight(word: Option<&[u8]>) -> Result<i64, PhaseCause>
 // A decimal in thousandths, cut downwards.
 fn thousandths(word: &[u8]) -> Result<i64, PhaseCause>
     ensures value { IfOk result (λ weight. weight ≡ weight_of (Some word.now)) }
+    ensures small { IfOk result (λ weight. unsigned_abs weight ≤ 10 ^ 12) }
     ensures good { IfOk result (λ _. IsTrue (is_some (millionths_of word.now))) }
     ensures bad { OnErr result (is_some (millionths_of word.now) ≡ false) }
     ensures fault { IfErr result (λ cause. cause ≡ PhaseCause.Number) }

@@ -2,6 +2,6 @@ use Rattle.std.proofs.Common.{refl}
 use Rattle.phase_reader.specs.PhaseEvents.{closed_lines, open_lines}
 use Rattle.phase_reader.proofs.draft.Draft.new.Goals as goal
 
-pub returns : goal.returns
+pub returns-clause-follows : goal.returns-clause-follows
 unfolding closed_lines open_lines
-returns c = record { events = rw c.new.ensures.items refl; picks = c.new-2.ensures.items; passed = refl }
+returns-clause-follows c = record { events = rw c.new.ensures.items refl; picks = c.new-2.ensures.items; passed = refl }
