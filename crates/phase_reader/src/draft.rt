@@ -1,5 +1,5 @@
 //! A phase file that is read line by line.
-ghost use Rattle.std.specs.Prelude.{◌≡◌, ◌≢◌, ◌+◌, ◌<◌, ◌≤◌, [], ◌∷◌, ◌++◌, List, IsTrue, OnOk, OnErr, IfOk, IfErr, All, length, false, codes, ℕ};
+ghost use Rattle.std.specs.Prelude.{◌≡◌, ◌≢◌, ◌+◌, ◌<◌, ◌≤◌, [], ◌∷◌, ◌++◌, List, IsTrue, OnOk, OnErr, IfOk, IfErr, All, length, vec_len, false, codes, ℕ};
 ghost use Rattle.std.specs.List.{list_all};
 ghost use Rattle.std.specs.Str.{bytes_eq};
 ghost use Rattle.text_terms.specs.Names.{is_name, is_name_byte};
@@ -96,6 +96,7 @@ impl Draft {
         ensures events { IfOk result (λ phases. picks_of_events phases.events.items ≡ picks_of_events self.events.items ++ as_event self.picks.items) }
         ensures passed { IfOk result (λ phases. phases.passed ≡ self.passed) }
         ensures limits { IsDraft self → IfOk result (λ phases. All IsEvent phases.events.items) }
+        ensures few { IsDraft self → IfOk result (λ phases. vec_len phases.events ≤ 10000) }
     {
         self.end_event(alloc)?;
         Ok(Phases {

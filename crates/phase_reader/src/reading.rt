@@ -1,5 +1,5 @@
 //! The reading of a phase file.
-ghost use Rattle.std.specs.Prelude.{◌≡◌, ◌≢◌, ◌≤◌, ℕ, List, length, All, IfOk, IfErr};
+ghost use Rattle.std.specs.Prelude.{◌≡◌, ◌≢◌, ◌≤◌, ℕ, List, length, vec_len, All, IfOk, IfErr};
 ghost use Rattle.phase_reader.specs.declared.fault.PhaseFault.{PhaseFault};
 ghost use Rattle.phase_reader.specs.declared.phases.Phases.{Phases};
 ghost use Rattle.phase_reader.specs.Limits.{IsEvent};
@@ -20,6 +20,7 @@ pub fn read_phases(alloc: Global, bytes: &[u8]) -> Result<Phases, PhaseFault>
     requires { length bytes.now ≤ 16777216 }
     ensures value { IfOk result (λ phases. IsReading bytes.now phases) }
     ensures limits { IfOk result (λ phases. All IsEvent phases.events.items) }
+    ensures few { IfOk result (λ phases. vec_len phases.events ≤ 10000) }
     ensures fault { IfErr result (λ fault. fault.cause ≢ PhaseCause.Memory → IsPhaseFault bytes.now fault) }
 {
     let mut lines = Lines::new(bytes);
