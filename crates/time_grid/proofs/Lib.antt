@@ -1,0 +1,10 @@
+pub mod StepLaws
+pub mod NumberLaws
+pub mod PositionLaws
+pub mod AxisLaws
+pub mod SelectionLaws
+pub mod TakeLaws
+pub mod BodyLaws
+pub mod FaultLaws
+pub mod AnswerLaws
+pub mod CoordinateLaws

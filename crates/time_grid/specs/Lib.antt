@@ -1,0 +1,9 @@
+pub mod Numbers
+pub mod Bodies
+pub mod GridFaults
+pub mod StreamFaults
+pub mod Axes
+pub mod Alignment
+pub mod Selections
+pub mod Cursors
+pub mod TimeGrids
