@@ -1,0 +1,16 @@
+mod ListLaws
+mod KeywordLaws
+mod LineKinds
+mod StatementFaults
+mod DraftSteps
+mod FaultSteps
+mod LineSteps
+mod FileSteps
+mod ReadSteps
+mod CompletionSteps
+pub mod ValueSteps
+mod NameSteps
+mod IncludeSteps
+mod TakenWords
+mod GridLimits
+mod PhaseIdSteps

@@ -1,0 +1,88 @@
+-- Places in lists that are put together, and ranges of numbers.
+use Rattle.std.proofs.Common.{◌≡◌, ℕ, zero, suc, ◌+◌, ◌<◌, ◌≤◌, Bool, List, [], ◌∷◌, ◌++◌, length, take, drop, get_or, Some, refl, ◌∙◌, ap, arith}
+use Rattle.std.specs.Prelude.{map, count_by}
+use Rattle.std.specs.Option.{option_map}
+use Rattle.std.proofs.lemmas.Option.{slice_get-map, slice_get_read}
+use Rattle.std.proofs.lemmas.List.{take-append-drop}
+use Rattle.std.specs.List.{slice_get, range_with_len, slice_split}
+use Rattle.std.proofs.lemmas.Grind.{common_steps}
+use Rattle.std.proofs.lemmas.List.Splits.{length-slice_split}
+use Rattle.std.proofs.lemmas.List.Sums.{count_by-le-length}
+use Rattle.text_terms.specs.Lines.{is_line_feed, lines_of_parts, lines_of}
+
+-- an element of a front stands at its place of the whole
+pub get_front : {A : Type 0} (front rest : List A) (j : ℕ) → j < length front → slice_get (front ++ rest) j ≡ slice_get front j
+get_front [] rest j less = absurd (omega (arith, less))
+get_front (x ∷ front) rest zero less = refl
+get_front (x ∷ front) rest (suc j) less = get_front front rest j (omega (arith, less))
+
+pub get_next : {A : Type 0} (front rest : List A) (x : A) → slice_get (front ++ x ∷ rest) (length front) ≡ Some x
+get_next [] rest x = refl
+get_next (y ∷ front) rest x = get_next front rest x
+
+-- a list that is cut at an element
+pub record Cut {A : Type 0} (k : ℕ) (xs : List A) (x : A) (rest : List A) : Type 0 where
+  pub within : k < length xs
+  pub whole : xs ≡ take k xs ++ x ∷ rest
+  pub upto : take (suc k) xs ≡ take k xs ++ x ∷ []
+  pub behind : drop (suc k) xs ≡ rest
+
+pub cut_here : {A : Type 0} (k : ℕ) (xs : List A) (x : A) (rest : List A) → drop k xs ≡ x ∷ rest → Cut k xs x rest
+cut_here zero [] x rest e = absurd cc
+cut_here zero (y ∷ ys) x rest e =
+    let same : y ≡ x = cc in
+    record { within = omega arith; whole = e; upto = rw same refl; behind = cc }
+cut_here (suc k) [] x rest e = absurd cc
+cut_here (suc k) (y ∷ ys) x rest e =
+    let more : Cut k ys x rest = cut_here k ys x rest e in
+    record {
+      within = omega (arith, more.within);
+      whole = ap (λ zs. y ∷ zs) more.whole;
+      upto = ap (λ zs. y ∷ zs) more.upto;
+      behind = more.behind;
+    }
+
+-- a list that is passed over whole is no longer than what was passed over
+pub drop_none : {A : Type 0} (k : ℕ) (xs : List A) → drop k xs ≡ [] → length xs ≤ k
+drop_none k [] e = omega arith
+drop_none zero (x ∷ xs) e = absurd cc
+drop_none (suc k) (x ∷ xs) e = omega (arith, drop_none k xs e)
+
+-- one more number behind a range, and a range that is cut at a number
+pub range_more : (a n j : ℕ) → a + n ≡ j → range_with_len a (suc n) ≡ range_with_len a n ++ j ∷ []
+range_more a zero j e = let f : a ≡ j = omega (arith, e) in rw f refl
+range_more a (suc n) j e = ap (λ xs. a ∷ xs) (range_more (a + 1) n j (omega (arith, e)))
+
+pub range_cut : (a k m j : ℕ) → a + k ≡ j → range_with_len a (k + suc m) ≡ range_with_len a k ++ j ∷ range_with_len (j + 1) m
+range_cut a zero m j e =
+    let sum : 0 + suc m ≡ suc m = omega arith in
+    let f : a ≡ j = omega (arith, e) in
+    rw (sum, f) refl
+range_cut a (suc k) m j e =
+    let sum : suc k + suc m ≡ suc (k + suc m) = omega arith in
+    rw sum (ap (λ xs. a ∷ xs) (range_cut (a + 1) k m j (omega (arith, e))))
+
+-- a file has at most one line more than bytes
+few_last : (part : List ℕ) → length (lines_of_parts (part ∷ [])) ≤ 1
+few_last [] = omega arith
+few_last (b ∷ part) = grind (arith, common_steps)
+
+few_parts : (parts : List (List ℕ)) → length (lines_of_parts parts) ≤ length parts
+few_parts [] = omega arith
+few_parts (part ∷ []) = few_last part
+few_parts (part ∷ next ∷ more) = omega (arith, few_parts (next ∷ more))
+
+pub few_lines : (bytes : List ℕ) → length (lines_of bytes) ≤ length bytes + 1
+few_lines bytes =
+    omega (arith, few_parts (slice_split is_line_feed bytes), length-slice_split is_line_feed bytes, count_by-le-length is_line_feed bytes)
+
+-- the front of a list has no more elements that pass a test
+pub count_front : {A : Type 0} (p : A → Bool) (k : ℕ) (xs : List A) → count_by p (take k xs) ≤ count_by p xs
+count_front p k xs =
+    let split : count_by p (take k xs ++ drop k xs) ≡ count_by p (take k xs) + count_by p (drop k xs) = grind (arith, common_steps) in
+    let whole = ap (count_by p) (take-append-drop k xs) in
+    omega (arith, split, whole)
+
+-- what a list's element becomes
+pub get_mapped : {A B : Type 0} (f : A → B) (xs : List A) (k : ℕ) (x : A) → k < length xs → x ≡ get_or xs k x → slice_get (map f xs) k ≡ Some (f x)
+get_mapped f xs k x less is = slice_get-map f xs k ∙ ap (option_map f) (slice_get_read xs (length xs) k x refl less is)

@@ -1,0 +1,19 @@
+//! Control files: the statements of the NonLinLoc documentation that a location needs, in this project's profile.
+#![tactic(auto)]
+
+mod arguments;
+mod control;
+mod draft;
+mod fault;
+mod includes;
+mod reading;
+mod statement;
+mod taking;
+#[cfg(test)]
+mod tests;
+mod values;
+mod words;
+
+pub use control::{Alias, Control, Delay, Exclude, PhaseId};
+pub use fault::{ControlCause, ControlFault, Keyword};
+pub use reading::{include_names, read_control, reading_excludes_fault, reading_says_values};

@@ -1,0 +1,10 @@
+mod DecideLaws
+mod DraftLaws
+mod KeyLaws
+mod LimitLaws
+mod ListLaws
+mod MetLaws
+mod NameLaws
+mod ReasonLaws
+mod SeenLaws
+mod UsingLaws

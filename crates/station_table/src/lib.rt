@@ -1,0 +1,22 @@
+//! Which picks of an event are used, and which time grids they need: aliases, standard phases, exclusions, delays and distances.
+#![tactic(auto)]
+
+mod distances;
+mod draft;
+mod key_index;
+mod key_words;
+mod keys;
+mod laws;
+mod picks;
+mod reasons;
+mod stations;
+#[cfg(test)]
+mod tests;
+mod using;
+mod wanting;
+
+pub use keys::{GridKey, Place, are_same_keys};
+pub use laws::{each_pick_is_in_one_list, first_ones_are_used};
+pub use picks::{Picks, Reason, Skip, UsedPick};
+pub use using::use_picks;
+pub use wanting::wanted;
