@@ -2,3 +2,15 @@ pub mod ProblemForms
 pub mod ProblemSteps
 pub mod SinkFronts
 pub mod ProblemValid
+pub mod EndingLaws
+pub mod IncludedSteps
+pub mod FaultyLaws
+pub mod PhaseSteps
+pub mod ControlSteps
+pub mod OutcomeLaws
+pub mod NumberedLaws
+pub mod WritingSteps
+pub mod AssemblySteps
+pub mod EndingSteps
+pub mod SaysSteps
+pub mod RunSteps

@@ -6,3 +6,12 @@ pub mod Refusals
 pub mod ProblemParts
 pub mod SolveText
 pub mod Runs
+pub mod LocateLines
+pub mod LocateText
+pub mod LocateEnding
+pub mod LocateRuns
+pub mod LocateRefusals
+pub mod LocateStages
+pub mod Outcomes
+pub mod AssembledText
+pub mod LocateSays

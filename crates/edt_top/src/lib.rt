@@ -1,6 +1,10 @@
 //! All that `edtloc` does: `locate_run`, from its words and files to its text, its line of refusal and its status.
 #![tactic(auto)]
 
+mod locate_input;
+mod locate_refusals;
+mod locate_telling;
+mod locating;
 mod problem_cursor;
 mod problem_file;
 mod problem_word;

@@ -1,7 +1,7 @@
 //! The answer to a problem file: its first best node.
 ghost use Rattle.std.specs.Prelude.{◌≡◌, ◌<◌, IfOk, IfErr};
 ghost use Rattle.std.specs.String.{string_bytes};
-ghost use Rattle.kernel_table.specs.Falloff.{AnswersItsShape};
+ghost use Rattle.kernel_table.specs.Falloff.{AnswersItsShape, shape_of};
 ghost use Rattle.kernel_table.specs.declared.kernels.Shape.TheVariants.{Gauss};
 ghost use Rattle.node_boxes.specs.Grid.{node_count};
 ghost use Rattle.edt_score.specs.Field.{time_at};
@@ -42,12 +42,26 @@ pub fn solve_text(alloc: Global, bytes: &[u8]) -> Result<String, ReadRefusal>
 // The first best node of a field for a problem, with the Gaussian kernel.
 fn best_of(alloc: Global, field: &Field, problem: &Problem) -> Result<Best, AllocError>
     requires valid { IsValidProblem field.now problem.now }
-    requires some { 0 < node_count field.now.grid }
     ensures first { IfOk result (λ best. IsFirstBest (node_count field.now.grid) (score_of Gauss (time_at field.now) problem.now.picks.items) best.node) }
     ensures score { IfOk result (λ best. best.score ≡ score_of Gauss (time_at field.now) problem.now.picks.items best.node) }
 {
     let falloff = Falloff::new(Shape::Gauss, |misfit, scale| gauss(misfit, scale));
-    let scorer = Scorer::new(alloc, field, problem, &falloff)?;
+    best_node(alloc, field, problem, &falloff)
+}
+
+// The first best node of a field for a problem.
+pub(crate) fn best_node<F: Fn(u64, u64) -> u64>(
+    alloc: Global,
+    field: &Field,
+    problem: &Problem,
+    falloff: &Falloff<F>,
+) -> Result<Best, AllocError>
+    requires valid { IsValidProblem field.now problem.now }
+    requires answers { AnswersItsShape F.Fn falloff.now }
+    ensures first { IfOk result (λ best. IsFirstBest (node_count field.now.grid) (score_of (shape_of falloff.now) (time_at field.now) problem.now.picks.items) best.node) }
+    ensures score { IfOk result (λ best. best.score ≡ score_of (shape_of falloff.now) (time_at field.now) problem.now.picks.items best.node) }
+{
+    let scorer = Scorer::new(alloc, field, problem, falloff)?;
     Ok(first_best(&scorer, field.grid().nodes()))
 }
 

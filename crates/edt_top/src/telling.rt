@@ -58,7 +58,7 @@ fn cause_name(cause: ProblemCause) -> &'static [u8]
 }
 
 // The pieces one after another, up to the first that is refused.
-fn put_pieces<E: Sink>(err: &mut E, pieces: &[&[u8]]) -> Result<(), PutFailed>
+pub(crate) fn put_pieces<E: Sink>(err: &mut E, pieces: &[&[u8]]) -> Result<(), PutFailed>
     ensures told { Told (E.taken err.old) (E.taken err.new) (E.faults err.old) (E.faults err.new) (flat_map (λ piece. piece.now) pieces.now) }
 {
     for piece in pieces {

@@ -1,0 +1,67 @@
+-- What the readings of headers say of the files of a shelf.
+use Rattle.std.proofs.Common.{◌≡◌, ℕ, Bool, true, false, List, length, Option, Some, None, IfSome, Ok, refl, sym, ap, subst, ◌∙◌}
+use Rattle.std.specs.Prelude.{is_some}
+use Rattle.std.specs.Global.{Vec}
+use Rattle.std.specs.Option.{option_map}
+use Rattle.std.proofs.lemmas.Bool.{le-ltb}
+use Rattle.edt_outside.specs.Shelves.{Files}
+use Rattle.edt_outside.specs.ReadFaults.{ReadsWhole}
+use Rattle.edt_outside.specs.HasFaults.{Tells}
+use Rattle.grid_header.specs.declared.header.Header.{Header}
+use Rattle.grid_header.specs.Causes.{cause_of}
+use Rattle.grid_header.specs.Reading.{IsReading}
+use Rattle.control_reader.specs.ControlValues.{ControlValues}
+use Rattle.station_table.specs.declared.keys.GridKey.{GridKey}
+use Rattle.event_assembly.specs.Headers.{header_of, fault_of_file}
+use Rattle.event_assembly.specs.Names.{header_name}
+use Rattle.event_assembly.specs.Reads.{ReadsPresent, ReadsHeader, header_in}
+
+-- a header that was read is the header of its bytes
+pub header_of-read : (bytes : List ℕ) (header : Header) → IsReading bytes header → header ≡ header_of bytes
+unfolding header_of
+header_of-read bytes header read = rw (read.x, read.y, read.z, read.ox, read.oy, read.oz, read.dx, read.dy, read.dz, read.sx, read.sy, read.sz) refl
+
+-- the answer for a file that was read whole
+pub present_read : (told : Option Files) (name text : List ℕ) (bytes : Vec ℕ) (header : Header) → text ≡ name
+    → IfSome told (λ files. ReadsWhole (files text) 65536 (Ok bytes)) → IsReading bytes.items header → cause_of bytes.items ≡ None
+    → IfSome told (λ files. IfSome (files name) (λ found. ReadsPresent name found (Ok header)))
+present_read None name text bytes header same whole read good = tt
+present_read (Some files) name text bytes header same (file, short) read good =
+    let there : files name ≡ Some bytes.items = subst (λ (t : List ℕ). files t ≡ Some bytes.items) same file in
+    rw (there, le-ltb 65536 (length bytes.items) short, good) (refl, header_of-read bytes.items header read)
+
+-- a header that is there and was read
+read_there : (name : List ℕ) (file : Option (List ℕ)) (header : Header) → is_some file ≡ true → IfSome file (λ bytes. ReadsPresent name bytes (Ok header))
+    → (fault_of_file name file ≡ None) × (Some header ≡ option_map header_of file)
+read_there name None header there read = absurd cc
+read_there name (Some bytes) header there (none, is) = (none, ap (λ (h : Header). Some h) is)
+
+-- a header that isn't there
+read_nowhere : (name : List ℕ) (file : Option (List ℕ)) → is_some file ≡ false
+    → (fault_of_file name file ≡ None) × (let none : Option Header = None in none ≡ option_map header_of file)
+read_nowhere name None lacks = (refl, refl)
+read_nowhere name (Some bytes) lacks = absurd cc
+
+-- a key whose header was found and read
+pub key_read : (told mid : Option Files) (control : ControlValues) (key : GridKey) (name text : List ℕ) (found : Bool) (header : Header)
+    → mid ≡ told → name ≡ header_name control key → text ≡ name → IfSome told (λ files. Tells (files text) (Ok found)) → found ≡ true
+    → IfSome mid (λ files. IfSome (files name) (λ bytes. ReadsPresent name bytes (Ok header)))
+    → IfSome told (λ files. ReadsHeader files control key (Ok (Some header)))
+unfolding header_in
+key_read None mid control key name text found header kept named same tells there read = tt
+key_read (Some files) mid control key name text found header kept named same tells there read =
+    let here : IfSome (files name) (λ bytes. ReadsPresent name bytes (Ok header)) = rw kept at read in
+    let P : List ℕ → Type 0 = λ n. (fault_of_file n (files n) ≡ None) × (Some header ≡ option_map header_of (files n)) in
+    let is : is_some (files name) ≡ true = subst (λ (t : List ℕ). is_some (files t) ≡ true) same (sym tells ∙ there) in
+    subst P named (read_there name (files name) header is here)
+
+-- a key whose header isn't there
+pub key_lacking : (told : Option Files) (control : ControlValues) (key : GridKey) (name text : List ℕ) (found : Bool)
+    → name ≡ header_name control key → text ≡ name → IfSome told (λ files. Tells (files text) (Ok found)) → found ≡ false
+    → IfSome told (λ files. ReadsHeader files control key (Ok None))
+unfolding header_in
+key_lacking None control key name text found named same tells lacks = tt
+key_lacking (Some files) control key name text found named same tells lacks =
+    let P : List ℕ → Type 0 = λ n. (fault_of_file n (files n) ≡ None) × (let none : Option Header = None in none ≡ option_map header_of (files n)) in
+    let is : is_some (files name) ≡ false = subst (λ (t : List ℕ). is_some (files t) ≡ false) same (sym tells ∙ lacks) in
+    subst P named (read_nowhere name (files name) is)

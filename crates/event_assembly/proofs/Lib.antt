@@ -1,0 +1,16 @@
+pub mod NameLaws
+pub mod ListLaws
+pub mod PlaceLaws
+pub mod FaultLaws
+pub mod CountLaws
+pub mod ReadLaws
+pub mod HeaderLaws
+pub mod NumberLaws
+pub mod ConvertLaws
+pub mod DecideLaws
+pub mod RowLaws
+pub mod RowKeyLaws
+pub mod GridLaws
+pub mod KeyLaws
+pub mod PlanLaws
+pub mod AssembleLaws

@@ -1,0 +1,8 @@
+use Rattle.std.proofs.Common.{take}
+use Rattle.control_reader.specs.ControlValues.{values_of}
+use Rattle.phase_reader.specs.PhaseFile.{picks_of_events}
+use Rattle.event_assembly.specs.Deciding.{AreDecided}
+use Rattle.event_assembly.proofs.deciding.decide.Given as goal
+
+abbrev pub invariant-loop-event : goal.invariant-loop-event
+invariant-loop-event l = AreDecided (values_of l.control) l.keys l.places (picks_of_events (take l.event-index l.events)) l.decided.items

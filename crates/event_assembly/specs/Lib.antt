@@ -1,0 +1,11 @@
+pub mod Names
+pub mod Headers
+pub mod Cases
+pub mod Rows
+pub mod Assembling
+pub mod Answers
+pub mod Reads
+pub mod Deciding
+pub mod Numbering
+pub mod Problems
+pub mod Planning

@@ -1,0 +1,45 @@
+//! The names of the files of time grids.
+ghost use Rattle.std.specs.Prelude.{◌≡◌, IfOk};
+ghost use Rattle.control_reader.specs.ControlValues.{values_of};
+ghost use Rattle.event_assembly.specs.Names.{header_name, body_name};
+
+use control_reader::Control;
+use edt_text::Name;
+use station_table::GridKey;
+use std::alloc::{AllocError, Global};
+
+/// The name of the header of a key. Want of memory is the only refusal.
+pub(crate) fn header_name(
+    alloc: Global,
+    control: &Control,
+    key: &GridKey,
+) -> Result<Name, AllocError>
+    ensures { IfOk result (λ name. name ≡ header_name (values_of control.now) key.now) }
+{
+    let root = control.time_root.as_str();
+    let phase = key.grid_phase.as_str();
+    let station = key.station.as_str();
+    let text = format!(in alloc; "{root}.{phase}.{station}.time.hdr")?;
+    name_of(alloc, text.as_bytes())
+}
+
+/// The name of the body of a key. Want of memory is the only refusal.
+pub(crate) fn body_name(alloc: Global, control: &Control, key: &GridKey) -> Result<Name, AllocError>
+    ensures { IfOk result (λ name. name ≡ body_name (values_of control.now) key.now) }
+{
+    let root = control.time_root.as_str();
+    let phase = key.grid_phase.as_str();
+    let station = key.station.as_str();
+    let text = format!(in alloc; "{root}.{phase}.{station}.time.usec")?;
+    name_of(alloc, text.as_bytes())
+}
+
+// The name of bytes that are one, which is refused for want of memory alone.
+fn name_of(alloc: Global, bytes: &[u8]) -> Result<Name, AllocError>
+    ensures { IfOk result (λ name. name ≡ bytes.now) }
+{
+    match Name::new(alloc, bytes) {
+        Ok(name) => Ok(name),
+        Err(_) => Err(AllocError),
+    }
+}
