@@ -6,7 +6,7 @@ ghost use Rattle.control_reader.specs.ControlValues.{values_of};
 ghost use Rattle.phase_reader.specs.Limits.{IsEvent};
 ghost use Rattle.phase_reader.specs.PhaseFile.{picks_of_events};
 ghost use Rattle.station_table.specs.Keys.{wanted_keys};
-ghost use Rattle.station_table.specs.Limits.{HoldsKeysOf, KeysDiffer};
+ghost use Rattle.station_table.specs.Limits.{HoldsKeysOf, IsKey, KeysDiffer};
 ghost use Rattle.event_assembly.specs.Answers.{Assembles, assemble_failed, assemble_absent, lacks_a_grid};
 ghost use Rattle.event_assembly.specs.Assembling.{AreValid};
 
@@ -78,6 +78,7 @@ fn numbered_keys(
     ensures value { IfOk result (λ keys. keys.items ≡ wanted_keys (values_of control.now) (picks_of_events events.now)) }
     ensures holds { IfOk result (λ keys. All (λ event. HoldsKeysOf (values_of control.now) keys.items event.picks.items) events.now) }
     ensures differ { IfOk result (λ keys. KeysDiffer keys.items) }
+    ensures limits { IfOk result (λ keys. All IsKey keys.items) }
     ensures few { IfOk result (λ keys. length keys.items < 2 ^ 32) }
 {
     let keys = wanted(alloc, control, events)?;

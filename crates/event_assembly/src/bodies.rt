@@ -6,6 +6,7 @@ ghost use Rattle.grid_header.specs.Reading.{IsValidHeader};
 ghost use Rattle.node_boxes.specs.Grid.{node_count};
 ghost use Rattle.control_reader.specs.Limits.{IsControl};
 ghost use Rattle.control_reader.specs.ControlValues.{values_of};
+ghost use Rattle.station_table.specs.Limits.{IsKey};
 ghost use Rattle.event_assembly.specs.Answers.{assemble_failed, assemble_absent};
 ghost use Rattle.event_assembly.specs.Assembling.{keys_at};
 ghost use Rattle.event_assembly.specs.Names.{body_name};
@@ -41,7 +42,8 @@ pub(crate) fn read_rows<S: Shelf>(
     rows: &[u32],
 ) -> Result<Field, AssembleFault>
     requires control { IsControl control.now }
-    requires keys { All (IsConvertible (values_of control.now)) keys.now }
+    requires keys { All IsKey keys.now }
+    requires ratios { All (IsConvertible (values_of control.now)) keys.now }
     requires headers { IfSome (S.files shelf.old) (λ files. headers.now ≡ map (header_in files (values_of control.now)) keys.now) }
     requires few { length rows.now < 2 ^ 32 }
     requires rows { All (IsRowKey keys.now headers.now) rows.now }
@@ -87,7 +89,8 @@ fn read_row<S: Shelf>(
     buffer: &mut [u8],
 ) -> Result<Vec<u32>, AssembleFault>
     requires control { IsControl control.now }
-    requires key { IsConvertible (values_of control.now) key.now }
+    requires key { IsKey key.now }
+    requires ratio { IsConvertible (values_of control.now) key.now }
     requires header { IsValidHeader header.now }
     requires room { 4 ≤ length buffer.old }
     ensures told { IfSome (S.files shelf.old) (λ files. ReadsRow files (values_of control.now) key.now header.now result) }

@@ -1,9 +1,11 @@
 //! The headers of the time grids that are wanted.
 ghost use Rattle.std.specs.Prelude.{◌≡◌, ◌≤◌, [], IfOk, OnOk, OnSome, IfSome, IsTrue, All, Some, is_none, length};
 ghost use Rattle.std.specs.List.{list_any};
+ghost use Rattle.text_terms.specs.Names.{is_name};
 ghost use Rattle.edt_outside.specs.Counts.{Rose, RisesExactly};
 ghost use Rattle.grid_header.specs.Reading.{IsValidHeader};
 ghost use Rattle.control_reader.specs.ControlValues.{values_of};
+ghost use Rattle.station_table.specs.Limits.{IsKey};
 ghost use Rattle.event_assembly.specs.Answers.{assemble_failed, assemble_absent};
 ghost use Rattle.event_assembly.specs.Reads.{ReadsPresent, ReadsHeader, ReadsHeaders};
 
@@ -26,6 +28,8 @@ pub(crate) fn read_headers<S: Shelf>(
     control: &Control,
     keys: &[GridKey],
 ) -> Result<Vec<Option<Header>>, AssembleFault>
+    requires root { IsTrue (is_name 255 control.now.time_root) }
+    requires keys { All IsKey keys.now }
     ensures told { IfSome (S.files shelf.old) (λ files. ReadsHeaders files (values_of control.now) keys.now result) }
     ensures one_each { IfOk result (λ headers. length headers.items ≡ length keys.now) }
     ensures valid { IfOk result (λ headers. All (λ header. IfSome header IsValidHeader) headers.items) }
@@ -52,6 +56,8 @@ fn read_key_header<S: Shelf>(
     control: &Control,
     key: &GridKey,
 ) -> Result<Option<Header>, AssembleFault>
+    requires root { IsTrue (is_name 255 control.now.time_root) }
+    requires key { IsKey key.now }
     ensures told { IfSome (S.files shelf.old) (λ files. ReadsHeader files (values_of control.now) key.now result) }
     ensures valid { IfOk result (λ header. IfSome header IsValidHeader) }
     ensures ended { OnOk result (OnSome (S.files shelf.old) (S.left shelf.old ≡ Some [] → S.left shelf.new ≡ Some [])) }

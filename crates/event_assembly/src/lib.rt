@@ -11,6 +11,8 @@ mod names;
 mod planning;
 mod problems;
 mod rows;
+#[cfg(test)]
+mod tests;
 
 pub use assembling::assemble;
 pub use assembly::{Assembly, Case, Prepared};

@@ -1,10 +1,12 @@
 //! The names of the files of time grids.
-ghost use Rattle.std.specs.Prelude.{◌≡◌, IfOk};
+ghost use Rattle.std.specs.Prelude.{◌≡◌, IfOk, IsTrue};
+ghost use Rattle.text_terms.specs.Names.{is_name};
 ghost use Rattle.control_reader.specs.ControlValues.{values_of};
+ghost use Rattle.station_table.specs.Limits.{IsKey};
 ghost use Rattle.event_assembly.specs.Names.{header_name, body_name};
 
 use control_reader::Control;
-use edt_text::Name;
+use edt_text::{Name, NameFault};
 use station_table::GridKey;
 use std::alloc::{AllocError, Global};
 
@@ -14,6 +16,8 @@ pub(crate) fn header_name(
     control: &Control,
     key: &GridKey,
 ) -> Result<Name, AllocError>
+    requires root { IsTrue (is_name 255 control.now.time_root) }
+    requires key { IsKey key.now }
     ensures { IfOk result (λ name. name ≡ header_name (values_of control.now) key.now) }
 {
     let root = control.time_root.as_str();
@@ -25,6 +29,8 @@ pub(crate) fn header_name(
 
 /// The name of the body of a key. Want of memory is the only refusal.
 pub(crate) fn body_name(alloc: Global, control: &Control, key: &GridKey) -> Result<Name, AllocError>
+    requires root { IsTrue (is_name 255 control.now.time_root) }
+    requires key { IsKey key.now }
     ensures { IfOk result (λ name. name ≡ body_name (values_of control.now) key.now) }
 {
     let root = control.time_root.as_str();
@@ -36,10 +42,14 @@ pub(crate) fn body_name(alloc: Global, control: &Control, key: &GridKey) -> Resu
 
 // The name of bytes that are one, which is refused for want of memory alone.
 fn name_of(alloc: Global, bytes: &[u8]) -> Result<Name, AllocError>
+    requires { IsTrue (is_name 512 bytes.now) }
     ensures { IfOk result (λ name. name ≡ bytes.now) }
 {
     match Name::new(alloc, bytes) {
         Ok(name) => Ok(name),
-        Err(_) => Err(AllocError),
+        Err(NameFault::Memory) => Err(AllocError),
+        Err(NameFault::Empty) => unreachable!(),
+        Err(NameFault::Long) => unreachable!(),
+        Err(NameFault::BadByte(_)) => unreachable!(),
     }
 }

@@ -30,8 +30,8 @@ returns-then-is_past_limit-clause-told g c =
     refused_cells told control events keys rows c.is_past_limit.result known
     (rw (c.deref-4.ensures.value, c.nodes.ensures.value) at c.is_past_limit.ensures) c.if-is_past_limit.true
 
-pub read_rows-requires-clause-keys : goal.read_rows-requires-clause-keys
-read_rows-requires-clause-keys g c =
+pub read_rows-requires-clause-ratios : goal.read_rows-requires-clause-ratios
+read_rows-requires-clause-ratios g c =
     wanted_convertible (values_of c.args.control.now) (picks_of_events c.args.events.now) c.deref-5.result.now (c.deref-5.ensures.value ∙ c.in_ok-keys.ensures.value)
 
 pub returns-in_err-field-clause-told : goal.returns-in_err-field-clause-told

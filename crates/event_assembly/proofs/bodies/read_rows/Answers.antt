@@ -2,6 +2,7 @@ use Rattle.std.proofs.Common.{◌∙◌, ℕ, map, [], ◌∷◌, refl, ap, get_
 use Rattle.std.proofs.lemmas.Option.{slice_get-get_or}
 use Rattle.edt_score.specs.Field.{FieldTimes}
 use Rattle.control_reader.specs.ControlValues.{values_of}
+use Rattle.station_table.specs.Limits.{IsKey}
 use Rattle.event_assembly.specs.declared.faults.AssembleFault.TheVariants.{Memory}
 use Rattle.event_assembly.specs.Assembling.{first_fault, keys_at}
 use Rattle.event_assembly.specs.Rows.{row_fault, row_times}
@@ -36,8 +37,13 @@ loop-row-init g c =
 pub read_row-requires-clause-key : goal.read_row-requires-clause-key
 read_row-requires-clause-key g c =
     let one = c.requires.rows c.loop-row.row-index 0 c.loop-row-test.true in
+    at_item IsKey c.args.keys.now (get_or c.args.rows.now c.loop-row.row-index 0) c.index-keys-row.result one.within c.index-keys-row.is c.requires.keys
+
+pub read_row-requires-clause-ratio : goal.read_row-requires-clause-ratio
+read_row-requires-clause-ratio g c =
+    let one = c.requires.rows c.loop-row.row-index 0 c.loop-row-test.true in
     at_item (IsConvertible (values_of c.args.control.now)) c.args.keys.now (get_or c.args.rows.now c.loop-row.row-index 0) c.index-keys-row.result
-    one.within c.index-keys-row.is c.requires.keys
+    one.within c.index-keys-row.is c.requires.ratios
 
 pub read_row-requires-clause-room : goal.read_row-requires-clause-room
 read_row-requires-clause-room g c = omega (arith, c.loop-row.invariant.buffer, c.deref_mut.ensures.len)

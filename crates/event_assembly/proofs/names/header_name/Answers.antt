@@ -1,8 +1,15 @@
-use Rattle.std.proofs.Common.{◌≡◌, ◌∙◌}
+use Rattle.std.specs.Prelude.{codes}
+use Rattle.std.proofs.Common.{refl, lit≤, ◌≡◌, ◌∙◌}
 use Rattle.control_reader.specs.ControlValues.{values_of}
 use Rattle.event_assembly.specs.Names.{header_name}
-use Rattle.event_assembly.proofs.NameLaws.{header_name-joined, named}
+use Rattle.event_assembly.proofs.NameLaws.{header_name-joined, file_name, named}
 use Rattle.event_assembly.proofs.names.header_name.Goals as goal
+
+pub name_of-requires : goal.name_of-requires
+name_of-requires c =
+    file_name c.as_str-root.result.now c.as_str-phase.result.now c.as_str-station.result.now (codes ".time.hdr") c.as_bytes.result.now
+    (c.as_bytes.ensures.value ∙ c.in_ok-text.ensures.ok) (rw c.as_str-root.ensures.text c.requires.root)
+    (rw c.as_str-phase.ensures.text c.requires.key.grid_phase) (rw c.as_str-station.ensures.text c.requires.key.station) (lit≤ tt) refl
 
 pub returns : goal.returns
 returns c =
