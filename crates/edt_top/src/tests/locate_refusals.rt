@@ -1,0 +1,179 @@
+//! Refusals of the files of a run that locates. The expected values were found apart from this code.
+
+use super::sample::Change::{Add, Put, Remove, Swap};
+use super::sample::{CONTROL, expect_refused};
+use std::test::Fail;
+
+const GRID_LINE: &str = "LOCGRID 4 1 1 10.0 0.0 0.0 1.0 1.0 1.0 PROB_DENSITY SAVE\n";
+
+const LAST_LINE: &str = "LOCSEARCH OCT 1 1 1 0.01 10000 5000 0 1\n";
+
+#[test]
+fn names_the_first_faulty_line_of_a_control_file(rt: HostRuntime) -> Result<(), Fail> {
+    let alloc = rt.alloc();
+    let twice = format!(in alloc; "{GRID_LINE}{GRID_LINE}")?;
+    let errors = format!(in alloc; "{LAST_LINE}LOCGAU2 0.01 0.05 2.0\n")?;
+    for (old, new, err) in [
+        (
+            "LOCMETH EDT",
+            "LOCMETH EDT_OT_WT",
+            "edtloc: control 0 7 Method\n",
+        ),
+        (GRID_LINE, twice.as_str(), "edtloc: control 0 7 Repeated\n"),
+        (GRID_LINE, "", "edtloc: control 0 0 Missing LOCGRID\n"),
+        (LAST_LINE, errors.as_str(), "edtloc: control 0 10 NotYet\n"),
+    ] {
+        expect_refused(&rt, alloc, &[Swap("e1.in", old, new)], 3, err)?;
+    }
+    Ok(())
+}
+
+#[test]
+fn names_the_first_faulty_line_of_an_included_file(rt: HostRuntime) -> Result<(), Fail> {
+    let alloc = rt.alloc();
+    for (included, err) in [
+        ("INCLUDE more.in\n", "edtloc: control 1 1 NestedInclude\n"),
+        ("# grid\nLOCGRID 4 1\n", "edtloc: control 1 2 Fields\n"),
+        // The statement's second line is in the main file, behind the included one.
+        (GRID_LINE, "edtloc: control 0 6 Repeated\n"),
+    ] {
+        let changes = [
+            Swap("e1.in", "# sample", "INCLUDE grid.in"),
+            Add("grid.in", included.as_bytes()),
+        ];
+        expect_refused(&rt, alloc, &changes, 3, err)?;
+    }
+    Ok(())
+}
+
+#[test]
+fn names_absent_included_files_before_faulty_statements(rt: HostRuntime) -> Result<(), Fail> {
+    let changes = [
+        Swap("e1.in", "# sample", "LOCMETH EDT\nINCLUDE grid.in"),
+        Remove("obs.txt"),
+    ];
+    expect_refused(&rt, rt.alloc(), &changes, 9, "edtloc: absent grid.in\n")
+}
+
+#[test]
+fn refuses_control_files_past_their_limit(rt: HostRuntime) -> Result<(), Fail> {
+    let alloc = rt.alloc();
+    let long = vec![in alloc; b' '; 1_048_577]?;
+    let main = [Put("e1.in", &long)];
+    expect_refused(&rt, alloc, &main, 3, "edtloc: control 0 0 TooLong\n")?;
+    let included = [
+        Swap("e1.in", "# sample", "INCLUDE first.in\nINCLUDE second.in"),
+        Add("first.in", b""),
+        Add("second.in", &long),
+    ];
+    expect_refused(&rt, alloc, &included, 3, "edtloc: control 2 0 TooLong\n")
+}
+
+#[test]
+fn names_the_first_faulty_line_of_a_phase_file(rt: HostRuntime) -> Result<(), Fail> {
+    let alloc = rt.alloc();
+    for (old, new, err) in [
+        (
+            "BBB ? ? ? P U 19940217",
+            "BBB ? ? ? P U 19940230",
+            "edtloc: phases 2 Date\n",
+        ),
+        ("45.0000", "1000", "edtloc: phases 1 Time\n"),
+        ("GAU", "BOX", "edtloc: phases 1 ErrorType\n"),
+    ] {
+        expect_refused(&rt, alloc, &[Swap("obs.txt", old, new)], 4, err)?;
+    }
+    Ok(())
+}
+
+#[test]
+fn refuses_headers_of_another_form(rt: HostRuntime) -> Result<(), Fail> {
+    let alloc = rt.alloc();
+    let header = "time/a.P.BBB.time.hdr";
+    for (old, new, err) in [
+        (
+            "USEC32",
+            "FLOAT",
+            "edtloc: header time/a.P.BBB.time.hdr FloatBody\n",
+        ),
+        (
+            " USEC32",
+            "",
+            "edtloc: header time/a.P.BBB.time.hdr FloatBody\n",
+        ),
+        (
+            "TIME",
+            "SLOW_LEN",
+            "edtloc: header time/a.P.BBB.time.hdr Kind\n",
+        ),
+        (
+            "BBB 13.0 0.0 0.0",
+            "BBB 13.0 0.0",
+            "edtloc: header time/a.P.BBB.time.hdr Shape\n",
+        ),
+    ] {
+        expect_refused(&rt, alloc, &[Swap(header, old, new)], 5, err)?;
+    }
+    Ok(())
+}
+
+#[test]
+fn refuses_bodies_of_another_length_or_with_a_time_past_its_limit(
+    rt: HostRuntime,
+) -> Result<(), Fail> {
+    let alloc = rt.alloc();
+    let body = "time/a.P.BBB.time.usec";
+    let times = vec![in alloc; 0; 17]?;
+    for (bytes, err) in [
+        (&times[..15], "edtloc: body time/a.P.BBB.time.usec Short\n"),
+        (&times[..], "edtloc: body time/a.P.BBB.time.usec Long\n"),
+        // The third time is 2000000001.
+        (
+            b"\0\0\0\0\0\0\0\0\x01\x94\x35\x77\xff\xff\xff\xff".as_slice(),
+            "edtloc: body time/a.P.BBB.time.usec TimeLimit 2\n",
+        ),
+    ] {
+        expect_refused(&rt, alloc, &[Put(body, bytes)], 5, err)?;
+    }
+    let err = "edtloc: absent time/a.P.BBB.time.usec\n";
+    expect_refused(&rt, alloc, &[Remove(body)], 9, err)
+}
+
+#[test]
+fn names_the_axis_on_which_a_search_grid_is_not_aligned(rt: HostRuntime) -> Result<(), Fail> {
+    let alloc = rt.alloc();
+    for (new, err) in [
+        (
+            "LOCGRID 4 1 1 10.5 0.5 0.0",
+            "edtloc: body time/a.P.AAA.time.usec NotAligned X\n",
+        ),
+        (
+            "LOCGRID 4 1 1 10.0 0.5 0.5",
+            "edtloc: body time/a.P.AAA.time.usec NotAligned Y\n",
+        ),
+        (
+            "LOCGRID 4 1 1 10.0 0.0 0.5",
+            "edtloc: body time/a.P.AAA.time.usec NotAligned Z\n",
+        ),
+    ] {
+        let changes = [Swap("e1.in", "LOCGRID 4 1 1 10.0 0.0 0.0", new)];
+        expect_refused(&rt, alloc, &changes, 5, err)?;
+    }
+    Ok(())
+}
+
+#[test]
+fn names_the_phase_file_where_it_is_absent(rt: HostRuntime) -> Result<(), Fail> {
+    let alloc = rt.alloc();
+    expect_refused(
+        &rt,
+        alloc,
+        &[Remove("obs.txt")],
+        9,
+        "edtloc: absent obs.txt\n",
+    )?;
+    // A faulty control file is told of first.
+    let changes = [Put("e1.in", &CONTROL.as_bytes()[..9]), Remove("obs.txt")];
+    let err = "edtloc: control 0 0 Missing LOCFILES\n";
+    expect_refused(&rt, alloc, &changes, 3, err)
+}

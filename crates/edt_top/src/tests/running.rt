@@ -1,0 +1,85 @@
+//! A run over a shelf and two sinks in memory, and what it is to end with.
+
+use crate::locate_run;
+use edt_outside::{MemoryShelf, MemorySink, Name, names_differ};
+use std::alloc::Global;
+use std::process::Abort;
+use std::test::Fail;
+
+// The names of files and what they hold.
+pub type Files = Vec<(Name, Vec<u8>)>;
+
+// The words of a run, how many bytes a read gives at most, and the numbers of the calls and of the writes that fail.
+#[derive(Clone, Copy)]
+pub struct Run<'a> {
+    pub words: &'a [&'a str],
+    pub piece: usize,
+    pub failing_calls: &'a [u64],
+    pub failing_writes: &'a [u64],
+    pub failing_errors: &'a [u64],
+}
+
+// A run of these words in which nothing fails.
+pub fn plain<'a>(words: &'a [&'a str]) -> Run<'a> {
+    Run {
+        words,
+        piece: 65536,
+        failing_calls: &[],
+        failing_writes: &[],
+        failing_errors: &[],
+    }
+}
+
+// What a run ends with: its status, and the bytes that the two sinks have taken.
+#[derive(Clone, Copy)]
+pub struct Ending<'a> {
+    pub status: u8,
+    pub out: &'a str,
+    pub err: &'a str,
+}
+
+// One file of this name.
+pub fn one_file(alloc: Global, name: &str, bytes: &[u8]) -> Result<Files, Fail> {
+    let mut files = Vec::new(alloc);
+    files.push((Name::new(alloc, name)?, bytes.to_vec(alloc)?))?;
+    Ok(files)
+}
+
+fn words_of(alloc: Global, words: &[&str]) -> Result<Vec<String>, Fail> {
+    let mut list = Vec::new(alloc);
+    for word in words {
+        list.push(String::from_str(alloc, word)?)?;
+    }
+    Ok(list)
+}
+
+// A sink that takes ten bytes a write.
+fn sink(alloc: Global, failing: &[u64]) -> Result<MemorySink, Fail> {
+    Ok(MemorySink::new(alloc, 2000, 10, failing.to_vec(alloc)?)?)
+}
+
+// Runs over these files, and asserts what it ends with.
+pub fn expect(
+    rt: &impl Abort,
+    alloc: Global,
+    files: Files,
+    run: &Run,
+    ending: &Ending,
+) -> Result<(), Fail> {
+    let words = words_of(alloc, run.words)?;
+    assert!(rt; names_differ(&files));
+    assert!(rt; 1 <= run.piece);
+    let mut shelf = MemoryShelf::new(files, run.piece, run.failing_calls.to_vec(alloc)?);
+    let mut output = sink(alloc, run.failing_writes)?;
+    let mut errors = sink(alloc, run.failing_errors)?;
+    assert_eq!(rt;
+        locate_run(alloc, &words, &mut shelf, &mut output, &mut errors),
+        ending.status,
+        "of {} {}",
+        ending.out,
+        ending.err
+    );
+    assert_eq!(rt; output.bytes(), ending.out.as_bytes());
+    assert_eq!(rt; errors.bytes(), ending.err.as_bytes());
+    Ok(())
+}
