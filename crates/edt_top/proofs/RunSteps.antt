@@ -41,7 +41,7 @@ pub neither_failed : (status fb fa wb wa : ℕ) → IsTrue (is_one_of status (0 
 neither_failed status fb fa wb wa one reads writes no_read no_write = elim (by_bool (status == 7)) [
   | inl seven ↦ absurd (no_read (subst (λ b. RisesExactly b fb fa) seven reads).1)
   | inr not_seven ↦ elim (by_bool (status == 8)) [
-      | inl eight ↦ absurd (no_write (subst (λ b. RisesExactly b wb wa) eight writes).1)
-      | inr not_eight ↦ grind (arith, nat_tests)
-    ]
+    | inl eight ↦ absurd (no_write (subst (λ b. RisesExactly b wb wa) eight writes).1)
+    | inr not_eight ↦ grind (arith, nat_tests)
+  ]
 ]

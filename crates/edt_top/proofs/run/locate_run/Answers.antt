@@ -43,7 +43,7 @@ returns-then-is_locate-clause-solves g c =
     let none = c.is_locate.ensures.yes c.if-is_locate.true in
     let words = map string_bytes c.args.words.now in
     told_more {P = λ files. LocateSays files (map string_bytes c.args.words.now) c.run_locate.result (Appends (g.O.Sink.taken c.args.out.now) (g.O.Sink.taken c.run_locate.new.out))
-    (Told (g.E.Sink.taken c.args.err.now) (g.E.Sink.taken c.run_locate.new.err) (g.E.Sink.faults c.args.err.now) (g.E.Sink.faults c.run_locate.new.err))} (g.S.Shelf.files c.args.shelf.now) (λ files says. λ writes. elim writes [ | inl solves ↦ absurd (solves_none files words (λ _. ⊤) none solves) | inr locates ↦ says.answers (Written locates.0) locates.1 ]) c.run_locate.ensures.told
+    (Told (g.E.Sink.taken c.args.err.now) (g.E.Sink.taken c.run_locate.new.err) (g.E.Sink.faults c.args.err.now) (g.E.Sink.faults c.run_locate.new.err))} (g.S.Shelf.files c.args.shelf.now) (λ files says. λ writes. elim writes [ inl solves ↦ absurd (solves_none files words (λ _. ⊤) none solves) | inr locates ↦ says.answers (Written locates.0) locates.1 ]) c.run_locate.ensures.told
 
 pub returns-then-is_locate-clause-control_refuses : goal.returns-then-is_locate-clause-control_refuses
 returns-then-is_locate-clause-control_refuses g c =
@@ -54,7 +54,7 @@ returns-then-is_locate-clause-refuses g c =
     let none = c.is_locate.ensures.yes c.if-is_locate.true in
     let words = map string_bytes c.args.words.now in
     told_more {P = λ files. LocateSays files (map string_bytes c.args.words.now) c.run_locate.result (Appends (g.O.Sink.taken c.args.out.now) (g.O.Sink.taken c.run_locate.new.out))
-    (Told (g.E.Sink.taken c.args.err.now) (g.E.Sink.taken c.run_locate.new.err) (g.E.Sink.faults c.args.err.now) (g.E.Sink.faults c.run_locate.new.err))} (g.S.Shelf.files c.args.shelf.now) (λ files says. λ refuses. elim refuses [ | inl file ↦ absurd (refuses_none files words (λ _. ⊤) none file) | inr locates ↦ says.answers (Refused 4 locates.0) locates.1 ]) c.run_locate.ensures.told
+    (Told (g.E.Sink.taken c.args.err.now) (g.E.Sink.taken c.run_locate.new.err) (g.E.Sink.faults c.args.err.now) (g.E.Sink.faults c.run_locate.new.err))} (g.S.Shelf.files c.args.shelf.now) (λ files says. λ refuses. elim refuses [ inl file ↦ absurd (refuses_none files words (λ _. ⊤) none file) | inr locates ↦ says.answers (Refused 4 locates.0) locates.1 ]) c.run_locate.ensures.told
 
 pub returns-then-is_locate-clause-grids_refuse : goal.returns-then-is_locate-clause-grids_refuse
 returns-then-is_locate-clause-grids_refuse g c =
@@ -65,14 +65,14 @@ returns-then-is_locate-clause-misses_file g c =
     let none = c.is_locate.ensures.yes c.if-is_locate.true in
     let words = map string_bytes c.args.words.now in
     told_more {P = λ files. LocateSays files (map string_bytes c.args.words.now) c.run_locate.result (Appends (g.O.Sink.taken c.args.out.now) (g.O.Sink.taken c.run_locate.new.out))
-    (Told (g.E.Sink.taken c.args.err.now) (g.E.Sink.taken c.run_locate.new.err) (g.E.Sink.faults c.args.err.now) (g.E.Sink.faults c.run_locate.new.err))} (g.S.Shelf.files c.args.shelf.now) (λ files says. λ misses. elim misses [ | inl file ↦ absurd (finds_none files words None none file.0) | inr locates ↦ says.answers (Missing locates.0) locates.1 ]) c.run_locate.ensures.told
+    (Told (g.E.Sink.taken c.args.err.now) (g.E.Sink.taken c.run_locate.new.err) (g.E.Sink.faults c.args.err.now) (g.E.Sink.faults c.run_locate.new.err))} (g.S.Shelf.files c.args.shelf.now) (λ files says. λ misses. elim misses [ inl file ↦ absurd (finds_none files words None none file.0) | inr locates ↦ says.answers (Missing locates.0) locates.1 ]) c.run_locate.ensures.told
 
 pub returns-then-is_locate-clause-complete : goal.returns-then-is_locate-clause-complete
 returns-then-is_locate-clause-complete g c =
     let none = c.is_locate.ensures.yes c.if-is_locate.true in
     let words = map string_bytes c.args.words.now in
     told_more {P = λ files. LocateSays files (map string_bytes c.args.words.now) c.run_locate.result (Appends (g.O.Sink.taken c.args.out.now) (g.O.Sink.taken c.run_locate.new.out))
-    (Told (g.E.Sink.taken c.args.err.now) (g.E.Sink.taken c.run_locate.new.err) (g.E.Sink.faults c.args.err.now) (g.E.Sink.faults c.run_locate.new.err))} (g.S.Shelf.files c.args.shelf.now) (λ files says. λ writes no_read no_write. neither_failed c.run_locate.result _ _ _ _ (elim writes [ | inl solves ↦ absurd (solves_none files words (λ _. ⊤) none solves) | inr locates ↦ says.answers (Written locates.0) locates.1 ]) c.run_locate.ensures.read_failed c.run_locate.ensures.write_failed no_read no_write) c.run_locate.ensures.told
+    (Told (g.E.Sink.taken c.args.err.now) (g.E.Sink.taken c.run_locate.new.err) (g.E.Sink.faults c.args.err.now) (g.E.Sink.faults c.run_locate.new.err))} (g.S.Shelf.files c.args.shelf.now) (λ files says. λ writes no_read no_write. neither_failed c.run_locate.result _ _ _ _ (elim writes [ inl solves ↦ absurd (solves_none files words (λ _. ⊤) none solves) | inr locates ↦ says.answers (Written locates.0) locates.1 ]) c.run_locate.ensures.read_failed c.run_locate.ensures.write_failed no_read no_write) c.run_locate.ensures.told
 
 pub returns-else-is_locate-clause-solved : goal.returns-else-is_locate-clause-solved
 returns-else-is_locate-clause-solved g c = told_more (g.S.Shelf.files c.args.shelf.now) (λ files told at. inl (told at)) c.run_solve.ensures.solved
