@@ -14,3 +14,4 @@ pub mod AssemblySteps
 pub mod EndingSteps
 pub mod SaysSteps
 pub mod RunSteps
+pub mod PartSteps

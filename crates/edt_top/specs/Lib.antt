@@ -15,3 +15,4 @@ pub mod LocateStages
 pub mod Outcomes
 pub mod AssembledText
 pub mod LocateSays
+pub mod RunParts

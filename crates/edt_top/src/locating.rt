@@ -1,5 +1,5 @@
 //! The text of a run that locates: its head line and the blocks of its events.
-ghost use Rattle.std.specs.Prelude.{◌≡◌, ◌≢◌, ◌==◌, ◌+◌, ◌<◌, ◌≤◌, ◌∷◌, [], length, vec_len, map, IfOk, IfErr, IfSome, OnOk, OnSome, Some, false};
+ghost use Rattle.std.specs.Prelude.{◌≡◌, ◌≢◌, ◌==◌, ◌+◌, ◌<◌, ◌≤◌, ◌∷◌, [], length, vec_len, map, IfOk, IfErr, IfSome, IsTrue, OnOk, OnSome, Some, false};
 ghost use Rattle.std.specs.String.{string_bytes};
 ghost use Rattle.edt_outside.specs.Counts.{RisesExactly};
 ghost use Rattle.edt_outside.specs.Sinks.{Appends};
@@ -13,6 +13,8 @@ ghost use Rattle.edt_score.specs.Problem.{IsValidProblem};
 ghost use Rattle.location_report.specs.Blocks.{outcome_of_best};
 ghost use Rattle.edt_top.specs.LocateText.{head_line};
 ghost use Rattle.edt_top.specs.Outcomes.{outcome_of_picks};
+ghost use Rattle.edt_top.specs.RunParts.{HasParts};
+ghost use Rattle.edt_top.specs.Runs.{is_one_of};
 
 use crate::locate_input::read_input;
 use crate::locate_refusals::LocateRefusal;
@@ -33,6 +35,8 @@ pub fn locate<S: Shelf, O: Sink>(
 ) -> Result<(), LocateRefusal>
     ensures told { IfSome (S.files shelf.old) (λ files.
         LocateEnds (locate_ending files name.now) result (λ text. Appends (O.taken out.old) (O.taken out.new) text)) }
+    ensures parts { HasParts (status_of_answer result) (λ text. Appends (O.taken out.old) (O.taken out.new) text) }
+    ensures early { IfErr result (λ refusal. IsTrue (is_one_of (locate_status refusal) (3 ∷ 4 ∷ [])) → S.lacks shelf.new ≡ S.lacks shelf.old) }
     ensures silent { IfErr result (λ refusal. locate_status refusal ≢ 6 → locate_status refusal ≢ 8 → O.taken out.new ≡ O.taken out.old) }
     ensures same_files { S.files shelf.new ≡ S.files shelf.old }
     ensures faults { RisesExactly (status_of_answer result == 7) (S.faults shelf.old) (S.faults shelf.new) }

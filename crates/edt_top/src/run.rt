@@ -5,6 +5,7 @@ ghost use Rattle.edt_outside.specs.Counts.{RisesExactly, Rose};
 ghost use Rattle.edt_outside.specs.Sinks.{Appends};
 ghost use Rattle.edt_top.specs.LocateRefusals.{status_of_answer};
 ghost use Rattle.edt_top.specs.LocateRuns.{IsControlLine, IsCutShort, IsFileLine, IsGridLine, LocateRefuses, Misses, RefusesFile, Writes, WritesFront};
+ghost use Rattle.edt_top.specs.RunParts.{HasParts};
 ghost use Rattle.edt_top.specs.LocateSays.{LocateSays, LocateTells, LocateToldAfter};
 ghost use Rattle.edt_top.specs.RunWords.{solve_name, locate_name, file_named, HasNoShape};
 ghost use Rattle.edt_top.specs.RunLines.{Told, IsProblemLine, words_line, memory_line, read_line, write_line, absent_line};
@@ -106,7 +107,8 @@ pub fn locate_run<S: Shelf, O: Sink, E: Sink>(
     ensures write_failed { RisesExactly (result == 8) (O.faults out.old) (O.faults out.new) }
     ensures absences { RisesExactly (result == 9) (S.misses shelf.old) (S.misses shelf.new) }
     ensures lacks { S.lacks shelf.old ≤ S.lacks shelf.new }
-    ensures no_lacks { solve_name (map string_bytes words.now) ≢ None → S.lacks shelf.new ≡ S.lacks shelf.old }
+    ensures no_lacks { IsTrue (is_one_of result (2 ∷ 3 ∷ 4 ∷ [])) → S.lacks shelf.new ≡ S.lacks shelf.old }
+    ensures solve_lacks { solve_name (map string_bytes words.now) ≢ None → S.lacks shelf.new ≡ S.lacks shelf.old }
     ensures calls { S.calls shelf.old ≤ S.calls shelf.new }
     ensures few_calls { solve_name (map string_bytes words.now) ≢ None → S.calls shelf.new ≤ S.calls shelf.old + 16777219 }
     ensures no_calls { result ≡ 2 → S.calls shelf.new ≡ S.calls shelf.old }
@@ -115,7 +117,22 @@ pub fn locate_run<S: Shelf, O: Sink, E: Sink>(
     ensures same_files { S.files shelf.new ≡ S.files shelf.old }
     ensures ended { result ≡ 0 → OnSome (S.files shelf.old) (S.left shelf.new ≡ Some []) }
     ensures silent { result ≢ 0 → result ≢ 6 → result ≢ 8 → O.taken out.new ≡ O.taken out.old }
+    ensures parts { locate_name (map string_bytes words.now) ≢ None
+        → HasParts result (λ text. Appends (O.taken out.old) (O.taken out.new) text) }
     ensures no_front { solve_name (map string_bytes words.now) ≢ None → result ≡ 6 → O.taken out.new ≡ O.taken out.old }
+
+    // What `solve` alone answers and tells, on every shelf.
+    ensures solve_statuses { solve_name (map string_bytes words.now) ≢ None
+        → IsTrue (is_one_of result (0 ∷ 4 ∷ 6 ∷ 7 ∷ 8 ∷ 9 ∷ [])) }
+    ensures solve_line_file { solve_name (map string_bytes words.now) ≢ None → result ≡ 4
+        → (line : List ℕ) × IsProblemLine line
+        × Told (E.taken err.old) (E.taken err.new) (E.faults err.old) (E.faults err.new) line }
+    ensures solve_line_read { solve_name (map string_bytes words.now) ≢ None → result ≡ 7
+        → Told (E.taken err.old) (E.taken err.new)
+        (E.faults err.old) (E.faults err.new) (read_line (file_named (map string_bytes words.now))) }
+    ensures solve_line_absent { solve_name (map string_bytes words.now) ≢ None → result ≡ 9
+        → Told (E.taken err.old) (E.taken err.new)
+        (E.faults err.old) (E.faults err.new) (absent_line (file_named (map string_bytes words.now))) }
 
     // The line to `err`, whole where no fault of it rose, else a prefix of it. Those of the statuses 3, 4, 5 and 9 stand above for a
     // shelf that tells its files.
@@ -249,6 +266,9 @@ fn run_locate<S: Shelf, O: Sink, E: Sink>(
     ensures write_failed { RisesExactly (result == 8) (O.faults out.old) (O.faults out.new) }
     ensures absences { RisesExactly (result == 9) (S.misses shelf.old) (S.misses shelf.new) }
     ensures lacks { S.lacks shelf.old ≤ S.lacks shelf.new }
+    ensures no_lacks { IsTrue (is_one_of result (2 ∷ 3 ∷ 4 ∷ [])) → S.lacks shelf.new ≡ S.lacks shelf.old }
+    ensures parts { locate_name (map string_bytes words.now) ≢ None
+        → HasParts result (λ text. Appends (O.taken out.old) (O.taken out.new) text) }
     ensures calls { S.calls shelf.old ≤ S.calls shelf.new }
     ensures no_calls { result ≡ 2 → S.calls shelf.new ≡ S.calls shelf.old }
     ensures same_files { S.files shelf.new ≡ S.files shelf.old }

@@ -1,5 +1,5 @@
 -- The names of the files of a time grid, as they are written.
-use Rattle.std.proofs.Common.{◌≡◌, ℕ, ◌+◌, ◌<◌, ◌≤◌, true, false, List, ◌∷◌, ◌++◌, length, get_or, Some, IfOk, Result, Ok, Err, refl, ◌∙◌, append_assoc, length-append, arith}
+use Rattle.std.proofs.Common.{◌≡◌, ℕ, ◌+◌, ◌≤◌, true, false, List, ◌∷◌, ◌++◌, length, get_or, Some, IfOk, Result, Ok, Err, refl, ◌∙◌, append_assoc, length-append, arith}
 use Rattle.std.specs.Prelude.{codes, ◌&&◌, nat_le, not, position, IsTrue}
 use Rattle.std.specs.List.{list_all}
 use Rattle.std.proofs.lemmas.Bool.{and_parts, leb-true, le-leb, not-true}

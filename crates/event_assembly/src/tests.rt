@@ -33,13 +33,13 @@ const S_PICK_A: &str = "AAA ? ? ? S U 19940217 2216 47.0000 GAU 1.00e-01 -1 -1 -
 const READY: &str =
     "ready 2: 0 1 | 1000000 2000000 3000000 4000000 | 2000000 2000000 2000000 2000000";
 
-// What these tests vary of a run: words of the control, the picks, and the files of the P grids of AAA and BBB.
+// What these tests vary of a run: words of the control, a letter for each line of picks, and the files of the P grids of AAA and BBB.
 #[derive(Clone, Copy)]
 struct Run<'a> {
     swap: &'a str,
     grid: &'a str,
     method: &'a str,
-    picks: &'a [&'a str],
+    picks: &'a str,
     headers: [Option<&'a [u8]>; 2],
     bodies: [Option<&'a [u8]>; 2],
     piece: usize,
@@ -51,7 +51,7 @@ const SAMPLE: Run<'static> = Run {
     swap: "",
     grid: "4 1 1 10.0 0.0 0.0 1.0 1.0 1.0",
     method: "9999.0 2 -1 -1 -1 0",
-    picks: &[PICK_A, PICK_B],
+    picks: "AB",
     headers: [Some(HEADER_A), Some(HEADER_B)],
     bodies: [Some(BODY_A), Some(BODY_B)],
     piece: 65536,
@@ -81,14 +81,26 @@ fn control_of(alloc: Global, run: &Run) -> Result<Control, Fail>
     }
 }
 
-// The events of these lines.
-fn events_of(alloc: Global, lines: &[&str]) -> Result<Vec<Event>, Fail>
+// The events of a line for each letter: a P pick at AAA or BBB, an S pick at AAA, or a blank line.
+fn events_of(alloc: Global, letters: &str) -> Result<Vec<Event>, Fail>
     ensures { IfOk result (λ events. All IsEvent events.items) }
 {
     let mut text = String::new(alloc);
-    for line in lines {
-        text.push_str(line)?;
+    for letter in letters.as_bytes() {
+        text.push_str(match letter {
+            b'A' => PICK_A,
+            b'B' => PICK_B,
+            b'a' => S_PICK_A,
+            _ => "\n",
+        })?;
     }
+    events_in(alloc, text.as_str())
+}
+
+// The events of a phase file.
+fn events_in(alloc: Global, text: &str) -> Result<Vec<Event>, Fail>
+    ensures { IfOk result (λ events. All IsEvent events.items) }
+{
     if text.len() > 16_777_216 {
         return Err(Fail::from("long picks"));
     }
@@ -430,7 +442,7 @@ fn the_first_refusal_in_the_order_of_work_decides(rt: HostRuntime) -> Result<(),
             ),
             (
                 Run {
-                    picks: &[PICK_B, PICK_A],
+                    picks: "BA",
                     bodies: [Some(b""), None],
                     ..SAMPLE
                 },
@@ -480,7 +492,7 @@ fn few_picks_need_no_bodies(rt: HostRuntime) -> Result<(), Fail> {
             (one, "few"),
             (
                 Run {
-                    picks: &[PICK_A, PICK_B, "\n", PICK_A],
+                    picks: "AB A",
                     ..one
                 },
                 "few; few",
@@ -508,7 +520,7 @@ fn few_picks_need_no_bodies(rt: HostRuntime) -> Result<(), Fail> {
 #[test]
 fn two_picks_are_needed_and_as_many_as_the_control_asks_for(rt: HostRuntime) -> Result<(), Fail> {
     let three = Run {
-        picks: &[PICK_A, PICK_B, S_PICK_A],
+        picks: "ABa",
         method: "9999.0 2 -1 -1 2.0 0",
         ..SAMPLE
     };
@@ -520,7 +532,7 @@ fn two_picks_are_needed_and_as_many_as_the_control_asks_for(rt: HostRuntime) -> 
         &[
             (
                 Run {
-                    picks: &[PICK_A],
+                    picks: "A",
                     method: "9999.0 1 -1 -1 -1 0",
                     ..SAMPLE
                 },
@@ -589,13 +601,11 @@ fn at_most_256_picks_are_used(rt: HostRuntime) -> Result<(), Fail> {
         ),
         (256, "many"),
     ] {
-        let mut lines = Vec::new(alloc);
-        lines.push(PICK_A)?;
-        lines.push(PICK_B)?;
+        let mut letters = String::from_str(alloc, "AB")?;
         for _ in 1..more {
-            lines.push(PICK_A)?;
+            letters.push_str("A")?;
         }
-        let events = events_of(alloc, &lines)?;
+        let events = events_of(alloc, letters.as_str())?;
         let mut shelf = shelf_of(&rt, alloc, &SAMPLE)?;
         let text = answer_of(alloc, &mut shelf, &control, &events)?;
         assert_eq!(rt; text.as_str(), wanted);
@@ -605,7 +615,7 @@ fn at_most_256_picks_are_used(rt: HostRuntime) -> Result<(), Fail> {
 
 #[test]
 fn s_times_come_from_p_grids_by_the_ratio(rt: HostRuntime) -> Result<(), Fail> {
-    let picks = &[PICK_A, S_PICK_A];
+    let picks = "Aa";
     // the times 1000001, 1000000, 0 and 5
     let odd: &[u8] = b"\x41\x42\x0f\x00\x40\x42\x0f\x00\x00\x00\x00\x00\x05\x00\x00\x00";
     // the times 5, 5, 1000000001 and 1000000000
@@ -660,40 +670,12 @@ fn events_share_rows_in_the_order_of_their_keys(rt: HostRuntime) -> Result<(), F
         "ready 2: 0 1 | 2000000 2000000 2000000 2000000 | 1000000 2000000 3000000 4000000";
     let twice =
         "ready 2: 0 1; ready 2: 1 0 | 1000000 2000000 3000000 4000000 | 2000000 2000000 2000000 2000000";
-    answers(
-        &rt,
-        rt.alloc(),
-        &[
-            (
-                Run {
-                    picks: &[PICK_B, PICK_A],
-                    ..SAMPLE
-                },
-                b_first,
-            ),
-            (
-                Run {
-                    picks: &[PICK_A, PICK_B, "\n", PICK_B, PICK_A],
-                    ..SAMPLE
-                },
-                twice,
-            ),
-            (
-                Run {
-                    picks: &[S_PICK_A, PICK_A, PICK_B],
-                    ..SAMPLE
-                },
-                READY,
-            ),
-            (
-                Run {
-                    picks: &[],
-                    ..SAMPLE
-                },
-                "",
-            ),
-        ],
-    )
+    let rows = [("BA", b_first), ("AB BA", twice), ("aAB", READY), ("", "")];
+    for (picks, wanted) in rows {
+        let text = answer(&rt, rt.alloc(), &Run { picks, ..SAMPLE })?;
+        assert_eq!(rt; text.as_str(), wanted);
+    }
+    Ok(())
 }
 
 // The headers of so many stations, over a grid of 2,000,000 nodes.
@@ -716,7 +698,7 @@ fn many_picks(alloc: Global, stations: u32) -> Result<Vec<Event>, Fail>
         let line = format!(in alloc; "S{station} ? ? ? P ? 20000101 0000 0 GAU 0.1\n")?;
         text.push_str(line.as_str())?;
     }
-    events_of(alloc, &[text.as_str()])
+    events_in(alloc, text.as_str())
 }
 
 // Ten rows of 2,000,000 times are not too many: then the first body is asked for, which isn't there. Eleven are, before any body.

@@ -1,7 +1,7 @@
 //! Refusals of the files of a run that locates. The expected values were found apart from this code.
 
 use super::sample::Change::{Add, Put, Remove, Swap};
-use super::sample::{CONTROL, expect_refused};
+use super::sample::{CONTROL, FIRST_HEADER, expect_refused};
 use std::test::Fail;
 
 const GRID_LINE: &str = "LOCGRID 4 1 1 10.0 0.0 0.0 1.0 1.0 1.0 PROB_DENSITY SAVE\n";
@@ -123,10 +123,15 @@ fn refuses_bodies_of_another_length_or_with_a_time_past_its_limit(
 ) -> Result<(), Fail> {
     let alloc = rt.alloc();
     let body = "time/a.P.BBB.time.usec";
-    let times = vec![in alloc; 0; 17]?;
     for (bytes, err) in [
-        (&times[..15], "edtloc: body time/a.P.BBB.time.usec Short\n"),
-        (&times[..], "edtloc: body time/a.P.BBB.time.usec Long\n"),
+        (
+            b"\0\0\0\0\0\0\0\0\0\0\0\0\0\0\0".as_slice(),
+            "edtloc: body time/a.P.BBB.time.usec Short\n",
+        ),
+        (
+            b"\0\0\0\0\0\0\0\0\0\0\0\0\0\0\0\0\0".as_slice(),
+            "edtloc: body time/a.P.BBB.time.usec Long\n",
+        ),
         // The third time is 2000000001.
         (
             b"\0\0\0\0\0\0\0\0\x01\x94\x35\x77\xff\xff\xff\xff".as_slice(),
@@ -137,6 +142,38 @@ fn refuses_bodies_of_another_length_or_with_a_time_past_its_limit(
     }
     let err = "edtloc: absent time/a.P.BBB.time.usec\n";
     expect_refused(&rt, alloc, &[Remove(body)], 9, err)
+}
+
+// P and S picks of six stations.
+const TWELVE_PICKS: &[u8] = b"AAA ? ? ? P ? 19940217 2216 45 GAU 0.1
+AAA ? ? ? S ? 19940217 2216 45 GAU 0.1
+BBB ? ? ? P ? 19940217 2216 45 GAU 0.1
+BBB ? ? ? S ? 19940217 2216 45 GAU 0.1
+CCC ? ? ? P ? 19940217 2216 45 GAU 0.1
+CCC ? ? ? S ? 19940217 2216 45 GAU 0.1
+DDD ? ? ? P ? 19940217 2216 45 GAU 0.1
+DDD ? ? ? S ? 19940217 2216 45 GAU 0.1
+EEE ? ? ? P ? 19940217 2216 45 GAU 0.1
+EEE ? ? ? S ? 19940217 2216 45 GAU 0.1
+FFF ? ? ? P ? 19940217 2216 45 GAU 0.1
+FFF ? ? ? S ? 19940217 2216 45 GAU 0.1
+";
+
+#[test]
+fn refuses_more_times_than_all_rows_may_have_before_any_body(rt: HostRuntime) -> Result<(), Fail> {
+    let header = FIRST_HEADER.as_bytes();
+    // Twelve rows of 2,000,000 nodes.
+    let changes = [
+        Swap("e1.in", "LOCGRID 4 1 1", "LOCGRID 125 125 128"),
+        Swap("e1.in", "2 -1 -1 -1 0", "2 -1 -1 1.7321 0"),
+        Put("obs.txt", TWELVE_PICKS),
+        Remove("time/a.P.AAA.time.usec"),
+        Add("time/a.P.CCC.time.hdr", header),
+        Add("time/a.P.DDD.time.hdr", header),
+        Add("time/a.P.EEE.time.hdr", header),
+        Add("time/a.P.FFF.time.hdr", header),
+    ];
+    expect_refused(&rt, rt.alloc(), &changes, 5, "edtloc: grids Cells\n")
 }
 
 #[test]

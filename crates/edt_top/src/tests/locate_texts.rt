@@ -36,12 +36,12 @@ fn writes_the_head_line_alone_for_an_empty_phase_file(rt: HostRuntime) -> Result
 }
 
 // Asserts that the sample's text is written after these lines are put behind its control file and this text for that in its phase file.
-fn expect_same_text(
+fn expect_same_text<'x>(
     rt: &impl Abort,
     alloc: Global,
     lines: &str,
-    old: &str,
-    new: &str,
+    old: &'x str,
+    new: &'x str,
 ) -> Result<(), Fail> {
     let last = format!(in alloc; "{LAST_LINE}{lines}\n")?;
     let changes = [

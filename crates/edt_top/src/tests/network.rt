@@ -131,21 +131,10 @@ fn network(alloc: Global) -> Result<Files, Fail> {
         Name::new(alloc, "obs.txt")?,
         PHASES.as_bytes().to_vec(alloc)?,
     ))?;
-    for (number, station) in (1..).zip(STATIONS) {
-        add_grid(
-            alloc,
-            &mut files,
-            "P",
-            station,
-            body(alloc, 1_000_000, number)?,
-        )?;
-        add_grid(
-            alloc,
-            &mut files,
-            "S",
-            station,
-            body(alloc, 1_700_000, 100 + number)?,
-        )?;
+    // Station k has the steps of k and of 100 + k seconds.
+    for ((p, s), station) in (1..).zip(101..).zip(STATIONS) {
+        add_grid(alloc, &mut files, "P", station, body(alloc, 1_000_000, p)?)?;
+        add_grid(alloc, &mut files, "S", station, body(alloc, 1_700_000, s)?)?;
     }
     Ok(files)
 }

@@ -22,7 +22,7 @@ pub const PHASES: &str =
 BBB ? ? ? P U 19940217 2216 46.0000 GAU 1.00e-01 -1.00e+00 -1.00e+00 -1.00e+00
 ";
 
-const FIRST_HEADER: &str = "4 1 1 10.0 0.0 0.0 1.0 1.0 1.0 TIME USEC32
+pub const FIRST_HEADER: &str = "4 1 1 10.0 0.0 0.0 1.0 1.0 1.0 TIME USEC32
 AAA 10.0 0.0 0.0
 ";
 

@@ -49,10 +49,9 @@ fn takes_file_words_of_at_most_255_bytes(rt: HostRuntime) -> Result<(), Fail> {
     let long = String::from_utf8(vec![in alloc; b'n'; 256]?)?;
     let longest = String::from_utf8(vec![in alloc; b'n'; 255]?)?;
     let absent = format!(in alloc; "edtloc: absent {longest}\n")?;
-    for command in ["locate", "solve"] {
-        expect_no_shape(&rt, alloc, &[command, long.as_str()])?;
-        let words = [command, longest.as_str()];
-        expect_words(&rt, alloc, &words, 9, absent.as_str())?;
-    }
-    Ok(())
+    expect_no_shape(&rt, alloc, &["locate", long.as_str()])?;
+    expect_no_shape(&rt, alloc, &["solve", long.as_str()])?;
+    let err = absent.as_str();
+    expect_words(&rt, alloc, &["locate", longest.as_str()], 9, err)?;
+    expect_words(&rt, alloc, &["solve", longest.as_str()], 9, err)
 }
