@@ -13,10 +13,10 @@ use Rattle.control_reader.specs.ControlLines.{ControlLine, control_lines, statem
 use Rattle.control_reader.specs.Values.{files_of, frame_of, method_of, sigma_of, cells_of, seed_of, count_of}
 use Rattle.control_reader.specs.ControlFile.{value_or, files_in, method_in, missing_fault, IsControlOf, IsReading, IsFaultOf, IsControlFault}
 use Rattle.control_reader.specs.Limits.{IsControl}
-use Rattle.control_reader.specs.Said.{Said, said_of, said_in}
-use Rattle.control_reader.specs.Follows.{Follows}
-use Rattle.control_reader.specs.SaidLimits.{IsWithin, IsFiles, IsFrame, IsMethod, IsSigma, AreCells, IsMargin, IsBudget}
-use Rattle.control_reader.specs.Completion.{missing_in, Completes}
+use Rattle.control_reader.specs.Inside.Said.{Said, said_of, said_in}
+use Rattle.control_reader.specs.Inside.Follows.{Follows}
+use Rattle.control_reader.specs.Inside.SaidLimits.{IsWithin, IsFiles, IsFrame, IsMethod, IsSigma, AreCells, IsMargin, IsBudget}
+use Rattle.control_reader.specs.Inside.Completion.{missing_in, Completes}
 use Rattle.control_reader.proofs.DraftSteps.{any_with}
 use Rattle.control_reader.proofs.FaultSteps.{faultless, fault_of_end}
 

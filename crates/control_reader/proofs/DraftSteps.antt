@@ -17,9 +17,9 @@ use Rattle.control_reader.specs.ControlLines.{ControlLine, kind_of, has_keyword,
 use Rattle.control_reader.specs.Values.{files_of, frame_of, method_of, sigma_of, cells_of, phase_ids_of, exclude_of, delay_of, alias_of, seed_of, count_of}
 use Rattle.control_reader.specs.WordFaults.{first_cause, unless, words_fault}
 use Rattle.control_reader.specs.ControlFile.{is_repeated, is_passed, is_passed_kind, statement_fault, kind_fault, fault_after}
-use Rattle.control_reader.specs.Said.{Said, said_in}
-use Rattle.control_reader.specs.NextStatement.{with_statement, with_kind, with_line}
-use Rattle.control_reader.specs.NextFault.{was_said, includes_file, statement_fault_by, kind_fault_by, fault_by}
+use Rattle.control_reader.specs.Inside.Said.{Said, said_in}
+use Rattle.control_reader.specs.Inside.NextStatement.{with_statement, with_kind, with_line}
+use Rattle.control_reader.specs.Inside.NextFault.{was_said, includes_file, statement_fault_by, kind_fault_by, fault_by}
 use Rattle.control_reader.proofs.LineKinds.{kind_has, has_kind}
 use Rattle.control_reader.proofs.StatementFaults.{fault_nested, fault_not_yet, fault_repeated}
 

@@ -12,9 +12,9 @@ use Rattle.control_reader.specs.declared.draft.Draft.{Draft}
 use Rattle.control_reader.specs.declared.fault.ControlFault.{ControlFault}
 use Rattle.control_reader.specs.ControlLines.{ControlLine, file_lines}
 use Rattle.control_reader.specs.ControlFile.{fault_after, IsFaultOf}
-use Rattle.control_reader.specs.Said.{said_of, control_line}
-use Rattle.control_reader.specs.Follows.{Follows}
-use Rattle.control_reader.specs.SaidLimits.{IsWithin}
+use Rattle.control_reader.specs.Inside.Said.{said_of, control_line}
+use Rattle.control_reader.specs.Inside.Follows.{Follows}
+use Rattle.control_reader.specs.Inside.SaidLimits.{IsWithin}
 use Rattle.control_reader.proofs.ListLaws.{Cut, cut_here, drop_none, few_lines}
 use Rattle.control_reader.proofs.FaultSteps.{fault_of_next}
 

@@ -15,9 +15,9 @@ use Rattle.edt_text.specs.LineCursor.{line_text, lines_left, lines_passed}
 use Rattle.control_reader.specs.declared.fault.ControlCause.{ControlCause}
 use Rattle.control_reader.specs.ControlLines.{ControlLine, file_lines, is_include, arguments_of, statements_with}
 use Rattle.control_reader.specs.Values.{include_of}
-use Rattle.control_reader.specs.Said.{control_line}
+use Rattle.control_reader.specs.Inside.Said.{control_line}
 use Rattle.control_reader.specs.Includes.{name_fault_after, name_fault_at, include_line_fault, include_count, AreIncludes, IsIncludeFault}
-use Rattle.control_reader.specs.IncludeNames.{names_in, name_fault_by, NamesFollow}
+use Rattle.control_reader.specs.Inside.IncludeNames.{names_in, name_fault_by, NamesFollow}
 use Rattle.control_reader.proofs.ListLaws.{get_front, get_next}
 use Rattle.control_reader.proofs.FileSteps.{Given, given_none, given_next, given_all}
 

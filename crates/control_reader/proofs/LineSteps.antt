@@ -12,10 +12,10 @@ use Rattle.control_reader.specs.declared.statement.LineKind.{LineKind}
 use Rattle.control_reader.specs.declared.statement.LineKind.TheVariants.{Blank, Comment, Passed, Of}
 use Rattle.control_reader.specs.ControlLines.{ControlLine, kind_of, is_include, arguments_of}
 use Rattle.control_reader.specs.ControlFile.{fault_after}
-use Rattle.control_reader.specs.Said.{Said, said_of, said_in}
-use Rattle.control_reader.specs.NextStatement.{with_kind, with_line, with_statement}
-use Rattle.control_reader.specs.NextFault.{includes_file, kind_fault_by, fault_by}
-use Rattle.control_reader.specs.Follows.{Follows}
+use Rattle.control_reader.specs.Inside.Said.{Said, said_of, said_in}
+use Rattle.control_reader.specs.Inside.NextStatement.{with_kind, with_line, with_statement}
+use Rattle.control_reader.specs.Inside.NextFault.{includes_file, kind_fault_by, fault_by}
+use Rattle.control_reader.specs.Inside.Follows.{Follows}
 use Rattle.control_reader.proofs.LineKinds.{kind_has, has_kind}
 use Rattle.control_reader.proofs.StatementFaults.{fault_nested, includes_after}
 use Rattle.control_reader.proofs.DraftSteps.{said_line, same_fault}

@@ -11,8 +11,8 @@ use Rattle.control_reader.specs.declared.statement.Statement.TheVariants.{Includ
 use Rattle.control_reader.specs.declared.statement.LineKind.{LineKind}
 use Rattle.control_reader.specs.declared.statement.LineKind.TheVariants.{Blank, Comment, Passed, Of}
 use Rattle.control_reader.specs.ControlLines.{ControlLine, kind_of, kind_of_words, is_include, arguments_of}
-use Rattle.control_reader.specs.ReadValues.{Pushes}
-use Rattle.control_reader.specs.IncludeNames.{kind_includes, names_in, name_fault_by}
+use Rattle.control_reader.specs.Inside.ReadValues.{Pushes}
+use Rattle.control_reader.specs.Inside.IncludeNames.{kind_includes, names_in, name_fault_by}
 use Rattle.control_reader.specs.Values.{include_of}
 use Rattle.control_reader.specs.WordFaults.{include_fault}
 use Rattle.control_reader.proofs.LineKinds.{kind_has, has_kind}

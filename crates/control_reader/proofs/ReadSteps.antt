@@ -15,9 +15,9 @@ use Rattle.control_reader.specs.declared.fault.ControlFault.{ControlFault}
 use Rattle.control_reader.specs.ControlLines.{ControlLine, file_lines, is_include, included_lines, with_file, control_lines}
 use Rattle.control_reader.specs.ControlFile.{fault_after, IsFaultOf}
 use Rattle.control_reader.specs.Includes.{include_count}
-use Rattle.control_reader.specs.Said.{said_of, control_line}
-use Rattle.control_reader.specs.Follows.{Follows}
-use Rattle.control_reader.specs.SaidLimits.{IsWithin}
+use Rattle.control_reader.specs.Inside.Said.{said_of, control_line}
+use Rattle.control_reader.specs.Inside.Follows.{Follows}
+use Rattle.control_reader.specs.Inside.SaidLimits.{IsWithin}
 use Rattle.control_reader.proofs.ListLaws.{Cut, range_more, range_cut, count_front}
 use Rattle.control_reader.proofs.FaultSteps.{fault_of_next}
 use Rattle.control_reader.proofs.FileSteps.{Given, given_none, given_next, given_all, few_given}

@@ -8,9 +8,9 @@ use Rattle.control_reader.specs.declared.statement.Statement.{Statement}
 use Rattle.control_reader.specs.declared.statement.Statement.TheVariants.{Locfiles, Locgrid, Locmeth, Locgau, Locsearch, Locphaseid, Locexclude, Locdelay, Localias, Control, Include, Edtnear, Edtbudget, Edtkernel, Edtlanes, Locgau2}
 use Rattle.control_reader.specs.Keywords.{is_not_yet, least_of}
 use Rattle.control_reader.specs.WordFaults.{fault_in_words}
-use Rattle.control_reader.specs.Said.{Said}
-use Rattle.control_reader.specs.NextFault.{was_said, includes_file, statement_fault_by}
-use Rattle.control_reader.specs.NextStatement.{with_statement}
+use Rattle.control_reader.specs.Inside.Said.{Said}
+use Rattle.control_reader.specs.Inside.NextFault.{was_said, includes_file, statement_fault_by}
+use Rattle.control_reader.specs.Inside.NextStatement.{with_statement}
 
 -- nothing speaks against the statement before its words
 pub record MayStand (said : Said) (file : ℕ) (statement : Statement) : Type 0 where

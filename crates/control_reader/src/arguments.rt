@@ -19,7 +19,7 @@ pub(crate) struct Arguments<'a> {
 }
 
 impl<'a> Arguments<'a> {
-    ghost use Rattle.control_reader.specs.Arguments.{argument_words};
+    ghost use Rattle.control_reader.specs.Inside.Arguments.{argument_words};
 
     /// The words that a line's cursor gives behind the keyword.
     pub(crate) fn new(line: Words<'a>) -> Arguments<'a>

@@ -2,10 +2,10 @@
 ghost use Rattle.std.specs.Prelude.{◌≡◌, ◌≢◌, ◌+◌, ◌^◌, ◌-◌, ◌<◌, ◌≤◌, [], ◌∷◌, ◌++◌, List, Some, None, if◌then◌else◌, false, length, OnOk, IfOk, IfErr};
 ghost use Rattle.control_reader.specs.ControlLines.{ControlLine, file_lines, is_include};
 ghost use Rattle.control_reader.specs.ControlFile.{fault_after, IsFaultOf};
-ghost use Rattle.control_reader.specs.Said.{said_of, control_line};
-ghost use Rattle.control_reader.specs.Follows.{Follows};
-ghost use Rattle.control_reader.specs.SaidLimits.{IsWithin};
-ghost use Rattle.control_reader.specs.Completion.{missing_in, Completes};
+ghost use Rattle.control_reader.specs.Inside.Said.{said_of, control_line};
+ghost use Rattle.control_reader.specs.Inside.Follows.{Follows};
+ghost use Rattle.control_reader.specs.Inside.SaidLimits.{IsWithin};
+ghost use Rattle.control_reader.specs.Inside.Completion.{missing_in, Completes};
 
 use crate::control::{Alias, Control, Delay, Exclude, PhaseId};
 use crate::fault::{ControlCause, ControlFault, Keyword};

@@ -1,7 +1,7 @@
 //! The names of included files, read before the statements.
 ghost use Rattle.std.specs.Prelude.{◌≡◌, ◌≢◌, ◌≤◌, ◌++◌, ℕ, Some, None, All, IsTrue, IfErr, OnOk, vec_len};
 ghost use Rattle.text_terms.specs.Names.{is_name};
-ghost use Rattle.control_reader.specs.IncludeNames.{names_in, name_fault_by};
+ghost use Rattle.control_reader.specs.Inside.IncludeNames.{names_in, name_fault_by};
 
 use crate::arguments::Arguments;
 use crate::fault::ControlCause;

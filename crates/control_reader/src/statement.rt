@@ -4,8 +4,8 @@ ghost use Rattle.text_terms.specs.Words.{words_of};
 ghost use Rattle.edt_text.specs.WordCursor.{words_left};
 ghost use Rattle.control_reader.specs.ControlLines as lines;
 ghost use Rattle.control_reader.specs.ControlLines.{kind_of_words};
-ghost use Rattle.control_reader.specs.NextFault.{includes_file};
-ghost use Rattle.control_reader.specs.IncludeNames.{kind_includes};
+ghost use Rattle.control_reader.specs.Inside.NextFault.{includes_file};
+ghost use Rattle.control_reader.specs.Inside.IncludeNames.{kind_includes};
 ghost use Rattle.control_reader.specs.Keywords as keywords;
 ghost use Rattle.control_reader.specs.Keywords.{statement_of, least_of};
 

@@ -1,13 +1,13 @@
 //! A draft that takes a line, its statement and the words of it.
 ghost use Rattle.std.specs.Prelude.{◌≡◌, ◌≢◌, ◌^◌, ◌-◌, ◌<◌, ◌≤◌, ℕ, Some, None, length, OnOk, IfErr};
-ghost use Rattle.control_reader.specs.Arguments.{argument_words};
+ghost use Rattle.control_reader.specs.Inside.Arguments.{argument_words};
 ghost use Rattle.control_reader.specs.Keywords.{least_of};
 ghost use Rattle.control_reader.specs.WordFaults.{fault_in_words};
-ghost use Rattle.control_reader.specs.Said.{said_of};
-ghost use Rattle.control_reader.specs.NextStatement.{with_statement, with_line};
-ghost use Rattle.control_reader.specs.NextFault.{was_said, statement_fault_by, fault_by};
-ghost use Rattle.control_reader.specs.SaidLimits.{IsWithin};
-ghost use Rattle.control_reader.specs.ReadValues.{Puts, Pushes};
+ghost use Rattle.control_reader.specs.Inside.Said.{said_of};
+ghost use Rattle.control_reader.specs.Inside.NextStatement.{with_statement, with_line};
+ghost use Rattle.control_reader.specs.Inside.NextFault.{was_said, statement_fault_by, fault_by};
+ghost use Rattle.control_reader.specs.Inside.SaidLimits.{IsWithin};
+ghost use Rattle.control_reader.specs.Inside.ReadValues.{Puts, Pushes};
 
 use crate::arguments::Arguments;
 use crate::draft::Draft;

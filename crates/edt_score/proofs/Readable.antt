@@ -6,7 +6,7 @@ use Rattle.std.proofs.lemmas.List.{get_or_default}
 use Rattle.edt_score.specs.declared.problem.ProblemPick.{ProblemPick}
 use Rattle.edt_score.specs.declared.problem.Problem.{Problem}
 use Rattle.edt_score.specs.Field.{FieldTimes}
-use Rattle.edt_score.specs.Pairs.{IsReadable}
+use Rattle.edt_score.specs.Inside.Pairs.{IsReadable}
 use Rattle.edt_score.specs.Problem.{AreNear, IsValidProblem}
 
 -- the size of a difference is that of the other way round

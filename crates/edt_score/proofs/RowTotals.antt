@@ -5,7 +5,7 @@ use Rattle.std.proofs.lemmas.List.{drop_more}
 use Rattle.kernel_table.specs.declared.kernels.Shape.{Shape}
 use Rattle.kernel_table.specs.Kernel.{kernel_value}
 use Rattle.edt_score.specs.PairTerms.{PairTerms}
-use Rattle.edt_score.specs.Pairs.{pair_count, row_score, table_score}
+use Rattle.edt_score.specs.Inside.Pairs.{pair_count, row_score, table_score}
 
 -- a weight by a value is at most 2^20 of the greatest weight
 pub term-le : (weight value : ℕ) → weight ≤ 262144000 → value ≤ 2 ^ 20 → weight * value ≤ 274877906944000

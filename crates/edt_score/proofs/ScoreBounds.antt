@@ -12,7 +12,7 @@ use Rattle.pair_weights.proofs.Weights.{weight_of-bound}
 use Rattle.edt_score.specs.declared.problem.ProblemPick.{ProblemPick}
 use Rattle.edt_score.specs.declared.problem.Problem.{Problem}
 use Rattle.edt_score.specs.Field.{FieldTimes}
-use Rattle.edt_score.specs.Pairs.{pair_count}
+use Rattle.edt_score.specs.Inside.Pairs.{pair_count}
 use Rattle.edt_score.specs.Problem.{IsValidPick, IsValidProblem}
 use Rattle.edt_score.specs.Score.{misfit_of, pair_scale, pair_score, pair_sum, score_of, variance_at}
 use Rattle.edt_score.proofs.RowTotals.{pair_count-le, term-le}

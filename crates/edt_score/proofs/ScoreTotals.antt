@@ -6,7 +6,7 @@ use Rattle.std.proofs.lemmas.List.Sums.{sum_by-cons}
 use Rattle.kernel_table.specs.declared.kernels.Shape.{Shape}
 use Rattle.edt_score.specs.declared.problem.ProblemPick.{ProblemPick}
 use Rattle.edt_score.specs.PairTerms.{PairTerms}
-use Rattle.edt_score.specs.Pairs.{pair_count, pairs_of, reduced_time_of, row_score, table_score, terms_of}
+use Rattle.edt_score.specs.Inside.Pairs.{pair_count, pairs_of, reduced_time_of, row_score, table_score, terms_of}
 use Rattle.edt_score.specs.Score.{misfit_of, pair_score, score_of}
 
 pub length-pairs_of : (picks : List ProblemPick) → length (pairs_of picks) ≡ pair_count (length picks)

@@ -9,5 +9,5 @@ pub mod Problem
 pub mod Score
 pub mod Scorer
 pub mod PairTerms
-pub mod Pairs
 pub mod Best
+pub mod Inside

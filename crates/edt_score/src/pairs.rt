@@ -1,5 +1,5 @@
 ghost use Rattle.std.specs.Prelude.{◌≡◌, ◌++◌, ◌≤◌, All, IfOk, OnOk, length, map};
-ghost use Rattle.edt_score.specs.Pairs.{IsPairable, pairs_of, terms_of};
+ghost use Rattle.edt_score.specs.Inside.Pairs.{IsPairable, pairs_of, terms_of};
 
 use crate::problem::ProblemPick;
 use pair_weights::{scale, weight};

@@ -2,7 +2,7 @@ ghost use Rattle.std.specs.Prelude.{◌≡◌, ◌*◌, ◌≤◌, ◌<◌, ◌-
 ghost use Rattle.node_boxes.specs.Grid.{node_count};
 ghost use Rattle.kernel_table.specs.Falloff.{AnswersItsShape, shape_of};
 ghost use Rattle.edt_score.specs.Field.{time_at};
-ghost use Rattle.edt_score.specs.Pairs.{IsReadable, pair_count, reduced_time_of, row_score, table_score};
+ghost use Rattle.edt_score.specs.Inside.Pairs.{IsReadable, pair_count, reduced_time_of, row_score, table_score};
 
 use crate::field::Field;
 use crate::pairs::Pair;

@@ -2,7 +2,7 @@ ghost use Rattle.std.specs.Prelude.{◌≡◌, ◌*◌, ◌^◌, ◌<◌, IfOk};
 ghost use Rattle.node_boxes.specs.Grid.{node_count};
 ghost use Rattle.kernel_table.specs.Falloff.{AnswersItsShape};
 ghost use Rattle.edt_score.specs.Problem.{IsValidProblem};
-ghost use Rattle.edt_score.specs.Pairs.{pairs_of};
+ghost use Rattle.edt_score.specs.Inside.Pairs.{pairs_of};
 
 use crate::field::Field;
 use crate::pairs::{Pair, collect_pairs};

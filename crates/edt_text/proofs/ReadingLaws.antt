@@ -8,7 +8,8 @@ use Rattle.std.proofs.lemmas.Grind.{common_steps}
 use Rattle.text_terms.specs.Numerals.{value_after, value_of, is_shortest_decimal}
 use Rattle.text_terms.proofs.NumeralLaws.{decimal-value_of, shortest-decimal, value_of-decimal}
 use Rattle.text_terms.proofs.Cases.{by_bool}
-use Rattle.edt_text.specs.Reading.{value_within, with_digit, reading_of}
+use Rattle.edt_text.specs.Reading.{reading_of}
+use Rattle.edt_text.specs.Inside.Digits.{value_within, with_digit}
 
 -- more digits make no number smaller
 pub value_after-grows : (n : ℕ) (digits : List ℕ) → n ≤ value_after n digits

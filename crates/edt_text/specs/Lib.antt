@@ -1,4 +1,4 @@
 pub mod LineCursor
-pub mod Parting
 pub mod WordCursor
 pub mod Reading
+pub mod Inside

@@ -1,18 +1,7 @@
 -- The number that a word is the shortest decimal of.
-use Rattle.std.specs.Prelude.{ℕ, ◌+◌, ◌-◌, ◌*◌, ◌^◌, ◌&&◌, nat_lt, if◌then◌else◌, List, Option, Some, None}
-use Rattle.std.specs.Char.{is_ascii_digit}
-use Rattle.std.specs.Str.{all_ascii_digits}
+use Rattle.std.specs.Prelude.{ℕ, ◌^◌, ◌&&◌, nat_lt, if◌then◌else◌, List, Option, Some, None}
 use Rattle.text_terms.specs.Numerals.{value_of, is_shortest_decimal}
 
 -- the number, below 2^64, of which the word is the shortest decimal
 abbrev pub reading_of : List ℕ → Option ℕ
 reading_of word = if is_shortest_decimal word && nat_lt (value_of word) (2 ^ 64) then Some (value_of word) else None
-
--- the number, below 2^64, that a list of digits writes
-abbrev pub value_within : List ℕ → Option ℕ
-value_within word = if all_ascii_digits word && nat_lt (value_of word) (2 ^ 64) then Some (value_of word) else None
-
--- the number with one more digit behind it, where it is a digit and the number stays below 2^64
-abbrev pub with_digit : ℕ → ℕ → Option ℕ
-with_digit n byte =
-    if is_ascii_digit byte && nat_lt (10 * n + (byte - 48)) (2 ^ 64) then Some (10 * n + (byte - 48)) else None

@@ -1,8 +1,9 @@
 //! Numbers as shortest decimals, written and read.
 ghost use Rattle.std.specs.Prelude.{◌≡◌, ℕ, ◌^◌, ◌<◌, List, ◌++◌, OnOk, OnErr, decimal};
 ghost use Rattle.std.specs.Fmt.{signed_decimal};
-ghost use Rattle.edt_text.specs.Reading as reading;
-ghost use Rattle.edt_text.specs.Reading.{reading_of, value_within};
+ghost use Rattle.edt_text.specs.Reading.{reading_of};
+ghost use Rattle.edt_text.specs.Inside.Digits.{value_within};
+ghost use Rattle.edt_text.specs.Inside.Digits as digits;
 
 use itoa::Buffer;
 use std::alloc::AllocError;
@@ -55,7 +56,7 @@ fn value_of(word: &[u8]) -> Option<u64>
 
 // The number with one more digit, where the byte is a digit and the number stays below 2^64.
 fn with_digit(value: u64, byte: u8) -> Option<u64>
-    ensures { result ≡ reading.with_digit value byte }
+    ensures { result ≡ digits.with_digit value byte }
 {
     if !byte.is_ascii_digit() {
         return None;

@@ -1,7 +1,7 @@
 //! The words of one line, and the words of all lines of a text.
 ghost use Rattle.std.specs.Prelude.{◌≡◌, [], ◌∷◌, not, position, IfNone, IfSome};
 ghost use Rattle.text_terms.specs.Words.{runs, words_of, file_words};
-ghost use Rattle.edt_text.specs.Parting.{parting};
+ghost use Rattle.edt_text.specs.Inside.Parting.{parting};
 
 /// A cursor over the words of one line: the longest runs of bytes other than tab, vertical tab, form feed, carriage return and
 /// blank. A line feed parts no words here, so a text of several lines is read line by line. It takes no memory.

@@ -18,8 +18,8 @@ use Rattle.event_assembly.specs.Answers.{IsRefusal, Assembles}
 use Rattle.event_assembly.specs.Assembling.{first_fault, keys_at, rows_of, assemble_fault, ArePrepared}
 use Rattle.event_assembly.specs.Headers.{header_of, header_fault, place_of_file, places_of}
 use Rattle.event_assembly.specs.Names.{header_name}
-use Rattle.event_assembly.specs.Planning.{place_of_header, places_of_headers}
-use Rattle.event_assembly.specs.Reads.{header_in}
+use Rattle.event_assembly.specs.Inside.Planning.{place_of_header, places_of_headers}
+use Rattle.event_assembly.specs.Inside.Reads.{header_in}
 use Rattle.event_assembly.specs.Rows.{cells_fault, row_keys, row_fault, row_times}
 use Rattle.event_assembly.proofs.FaultLaws.{first_fault-append, first_fault-before, refusal_by}
 

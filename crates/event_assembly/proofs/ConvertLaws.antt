@@ -5,7 +5,7 @@ use Rattle.std.specs.List.{slice_set}
 use Rattle.std.proofs.lemmas.Bool.{cases_lt, le-ltb, lt-ltb}
 use Rattle.std.proofs.lemmas.List.{ext_get_or, get_or-map, get_or-set_same, get_or-set_other, length-map, length-set}
 use Rattle.time_grid.specs.Numbers.{is_over}
-use Rattle.event_assembly.specs.Reads.{Converts}
+use Rattle.event_assembly.specs.Inside.Reads.{Converts}
 use Rattle.event_assembly.proofs.PlaceLaws.{position_at, position_nowhere}
 
 -- the times before a place are converted and within their limit, and the others stand as they were

@@ -11,7 +11,7 @@ use Rattle.station_table.specs.declared.keys.Place.{Place}
 use Rattle.station_table.specs.declared.picks.Picks.{Picks}
 use Rattle.station_table.specs.Limits.{IsUsedPick}
 use Rattle.station_table.specs.Using.{ArePicksOf, used_picks, skipped_picks}
-use Rattle.event_assembly.specs.Deciding.{AreDecided, AreNear, AreUsed}
+use Rattle.event_assembly.specs.Inside.Deciding.{AreDecided, AreNear, AreUsed}
 use Rattle.event_assembly.proofs.ListLaws.{map_push, take_item}
 
 -- one more thing is made of one more item

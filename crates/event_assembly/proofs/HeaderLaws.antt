@@ -14,7 +14,7 @@ use Rattle.control_reader.specs.ControlValues.{ControlValues}
 use Rattle.station_table.specs.declared.keys.GridKey.{GridKey}
 use Rattle.event_assembly.specs.Headers.{header_of, fault_of_file}
 use Rattle.event_assembly.specs.Names.{header_name}
-use Rattle.event_assembly.specs.Reads.{ReadsPresent, ReadsHeader, header_in}
+use Rattle.event_assembly.specs.Inside.Reads.{ReadsPresent, ReadsHeader, header_in}
 
 -- a header that was read is the header of its bytes
 pub header_of-read : (bytes : List ℕ) (header : Header) → IsReading bytes header → header ≡ header_of bytes

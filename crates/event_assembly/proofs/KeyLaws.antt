@@ -11,7 +11,7 @@ use Rattle.phase_reader.specs.declared.phases.Pick.{Pick}
 use Rattle.station_table.specs.declared.keys.GridKey.{GridKey}
 use Rattle.station_table.specs.Keys.{same_key, first_seen, key_for, key_of, is_wanted, wanted_keys}
 use Rattle.station_table.specs.Stations.{station_of, phase_of}
-use Rattle.event_assembly.specs.Reads.{IsConvertible}
+use Rattle.event_assembly.specs.Inside.Reads.{IsConvertible}
 
 -- a number that a test finds above 0 is so
 above_zero : (z : ℤ) → int_lt (pos 0) z ≡ true → pos 0 <ℤ z

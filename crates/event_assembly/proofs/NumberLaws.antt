@@ -8,7 +8,7 @@ use Rattle.std.proofs.lemmas.List.Elements.{filter-append}
 use Rattle.std.proofs.lemmas.List.Quantifiers.{position-Some}
 use Rattle.std.proofs.Math.ListN.{get_or-append}
 use Rattle.event_assembly.specs.declared.rows.Rows.{Rows}
-use Rattle.event_assembly.specs.Numbering.{marked_keys, AreNumbered}
+use Rattle.event_assembly.specs.Inside.Numbering.{marked_keys, AreNumbered}
 use Rattle.event_assembly.proofs.PlaceLaws.{position_at, position_stays}
 
 -- one more number

@@ -32,11 +32,11 @@ use Rattle.event_assembly.specs.declared.rows.Rows.{Rows}
 use Rattle.event_assembly.specs.Assembling.{ArePrepared, IsValidCase, AreValid, problem_in, problem_of, used_of_events}
 use Rattle.event_assembly.specs.Answers.{has_no_grid, lacks_a_grid}
 use Rattle.event_assembly.specs.Cases.{is_s, is_few, is_many, is_ready}
-use Rattle.event_assembly.specs.Deciding.{AreDecided, AreKeysOfAll, AreUsed, AreNear}
-use Rattle.event_assembly.specs.Numbering.{needs_key, has_key, marked_keys, AreNumbered}
-use Rattle.event_assembly.specs.Problems.{problem_pick, problem_by, ArePreparedBy}
-use Rattle.event_assembly.specs.Planning.{place_of_header, places_of_headers}
-use Rattle.event_assembly.specs.Reads.{HasHeader, IsRowKey}
+use Rattle.event_assembly.specs.Inside.Deciding.{AreDecided, AreKeysOfAll, AreUsed, AreNear}
+use Rattle.event_assembly.specs.Inside.Numbering.{needs_key, has_key, marked_keys, AreNumbered}
+use Rattle.event_assembly.specs.Inside.Problems.{problem_pick, problem_by, ArePreparedBy}
+use Rattle.event_assembly.specs.Inside.Planning.{place_of_header, places_of_headers}
+use Rattle.event_assembly.specs.Inside.Reads.{HasHeader, IsRowKey}
 use Rattle.event_assembly.specs.Rows.{uses_key, row_keys, row_of_key}
 use Rattle.event_assembly.proofs.GridLaws.{HasGrid, used_have_grids, skipped_have_grids}
 

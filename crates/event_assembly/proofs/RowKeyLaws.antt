@@ -15,7 +15,7 @@ use Rattle.event_assembly.specs.Answers.{IsRefusal}
 use Rattle.event_assembly.specs.Assembling.{keys_at}
 use Rattle.event_assembly.specs.Headers.{header_of}
 use Rattle.event_assembly.specs.Names.{header_name, body_name}
-use Rattle.event_assembly.specs.Reads.{header_in, IsRowKey, ReadsRow, ReadsRows}
+use Rattle.event_assembly.specs.Inside.Reads.{header_in, IsRowKey, ReadsRow, ReadsRows}
 use Rattle.event_assembly.specs.Rows.{body_search_times, times_for, fault_of_row_file, row_header, row_fault, row_times}
 use Rattle.event_assembly.proofs.ReadLaws.{AreMade, AreMade-all, MakesOne}
 

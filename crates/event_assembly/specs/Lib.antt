@@ -4,8 +4,4 @@ pub mod Cases
 pub mod Rows
 pub mod Assembling
 pub mod Answers
-pub mod Reads
-pub mod Deciding
-pub mod Numbering
-pub mod Problems
-pub mod Planning
+pub mod Inside

@@ -11,7 +11,7 @@ ghost use Rattle.event_assembly.specs.Answers.{assemble_failed, assemble_absent}
 ghost use Rattle.event_assembly.specs.Assembling.{keys_at};
 ghost use Rattle.event_assembly.specs.Names.{body_name};
 ghost use Rattle.event_assembly.specs.Rows.{byte_order, by_ratio, times_for};
-ghost use Rattle.event_assembly.specs.Reads.{header_in, body_refusal, IsConvertible, HasHeader, IsRowKey, Converts, ReadsTimes, ReadsRow, ReadsRows};
+ghost use Rattle.event_assembly.specs.Inside.Reads.{header_in, body_refusal, IsConvertible, HasHeader, IsRowKey, Converts, ReadsTimes, ReadsRow, ReadsRows};
 
 use crate::faults::AssembleFault;
 use crate::names::body_name;

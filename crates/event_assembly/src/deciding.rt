@@ -5,7 +5,7 @@ ghost use Rattle.control_reader.specs.ControlValues.{values_of};
 ghost use Rattle.phase_reader.specs.Limits.{IsEvent};
 ghost use Rattle.phase_reader.specs.PhaseFile.{picks_of_events};
 ghost use Rattle.event_assembly.specs.Cases.{is_few, is_ready, is_s};
-ghost use Rattle.event_assembly.specs.Deciding.{AreKeysOfAll, AreDecided};
+ghost use Rattle.event_assembly.specs.Inside.Deciding.{AreKeysOfAll, AreDecided};
 
 use control_reader::Control;
 use phase_reader::Event;

@@ -7,7 +7,7 @@ ghost use Rattle.grid_header.specs.Reading.{IsValidHeader};
 ghost use Rattle.control_reader.specs.ControlValues.{values_of};
 ghost use Rattle.station_table.specs.Limits.{IsKey};
 ghost use Rattle.event_assembly.specs.Answers.{assemble_failed, assemble_absent};
-ghost use Rattle.event_assembly.specs.Reads.{ReadsPresent, ReadsHeader, ReadsHeaders};
+ghost use Rattle.event_assembly.specs.Inside.Reads.{ReadsPresent, ReadsHeader, ReadsHeaders};
 
 use crate::faults::AssembleFault;
 use crate::names::header_name;

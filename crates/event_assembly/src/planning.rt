@@ -6,7 +6,7 @@ ghost use Rattle.control_reader.specs.Limits.{IsControl};
 ghost use Rattle.phase_reader.specs.Limits.{IsEvent};
 ghost use Rattle.phase_reader.specs.PhaseFile.{picks_of_events};
 ghost use Rattle.station_table.specs.Limits.{HoldsKeysOf, KeysDiffer};
-ghost use Rattle.event_assembly.specs.Planning.{IsPlan, place_of_header, places_of_headers};
+ghost use Rattle.event_assembly.specs.Inside.Planning.{IsPlan, place_of_header, places_of_headers};
 
 use crate::assembly::Prepared;
 use crate::deciding::decide;

@@ -3,7 +3,7 @@ ghost use Rattle.std.specs.Prelude.{◌≡◌, ◌<◌, IfOk, All, length, map};
 ghost use Rattle.control_reader.specs.ControlValues.{values_of};
 ghost use Rattle.event_assembly.specs.Cases.{is_few};
 ghost use Rattle.event_assembly.specs.Assembling.{is_few_case, problem_in};
-ghost use Rattle.event_assembly.specs.Problems.{problem_by, problem_pick, ArePreparedBy};
+ghost use Rattle.event_assembly.specs.Inside.Problems.{problem_by, problem_pick, ArePreparedBy};
 
 use crate::assembly::{Case, Prepared};
 use crate::deciding::{MOST_PICKS, is_few};

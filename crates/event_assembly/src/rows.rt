@@ -3,8 +3,8 @@ ghost use Rattle.std.specs.Prelude.{◌≡◌, ◌*◌, ◌^◌, ◌||◌, ◌<�
 ghost use Rattle.std.specs.List.{list_any};
 ghost use Rattle.control_reader.specs.ControlValues.{values_of};
 ghost use Rattle.station_table.specs.Limits.{IsUsedPick};
-ghost use Rattle.event_assembly.specs.Deciding.{AreUsed};
-ghost use Rattle.event_assembly.specs.Numbering.{has_key, needs_key, AreNumbered};
+ghost use Rattle.event_assembly.specs.Inside.Deciding.{AreUsed};
+ghost use Rattle.event_assembly.specs.Inside.Numbering.{has_key, needs_key, AreNumbered};
 
 use crate::deciding::is_ready;
 use control_reader::Control;

@@ -7,7 +7,7 @@ use Rattle.text_terms.proofs.Cases.{less_or_not}
 use Rattle.fixed_decimal.specs.declared.form.State.{State}
 use Rattle.fixed_decimal.specs.declared.form.State.TheVariants.{Start, Mantissa, Mark, Exponent}
 use Rattle.fixed_decimal.specs.Form.{has_form}
-use Rattle.fixed_decimal.specs.State.{after, ends, run}
+use Rattle.fixed_decimal.specs.Inside.State.{after, ends, run}
 use Rattle.fixed_decimal.specs.Leaving.{CanBegin, LeavesFormAt}
 use Rattle.fixed_decimal.proofs.RunForm.{accepted, accepted-form}
 

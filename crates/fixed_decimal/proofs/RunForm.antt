@@ -12,7 +12,7 @@ use Rattle.text_terms.proofs.Cases.{by_bool}
 use Rattle.fixed_decimal.specs.declared.form.State.{State}
 use Rattle.fixed_decimal.specs.declared.form.State.TheVariants.{Start, Mantissa, Mark, Exponent}
 use Rattle.fixed_decimal.specs.Form.{is_sign, is_mark, is_point, without_sign, is_mantissa, is_exponent, mantissa_of, exponent_of, has_mark, has_form}
-use Rattle.fixed_decimal.specs.State.{ends, run}
+use Rattle.fixed_decimal.specs.Inside.State.{ends, run}
 use Rattle.fixed_decimal.proofs.ByteLaws.{digit-no_mark, digit-no_point, point-no_mark, sign-no_mark}
 use Rattle.fixed_decimal.proofs.MarkLaws.{mantissa_of-mark, mantissa_of-other, exponent_of-mark, exponent_of-other, has_mark-mark, has_mark-other}
 

@@ -1,5 +1,5 @@
 pub mod Form
-pub mod State
 pub mod Leaving
 pub mod Nearest
 pub mod Value
+pub mod Inside

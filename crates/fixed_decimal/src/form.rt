@@ -2,7 +2,7 @@
 ghost use Rattle.std.specs.Prelude.{◌≡◌, true, MatchOption};
 ghost use Rattle.fixed_decimal.specs.Form.{has_form};
 ghost use Rattle.fixed_decimal.specs.Leaving.{LeavesFormAt};
-ghost use Rattle.fixed_decimal.specs.State as spec;
+ghost use Rattle.fixed_decimal.specs.Inside.State as spec;
 
 // How far a text has come.
 #[derive(Clone, Copy)]

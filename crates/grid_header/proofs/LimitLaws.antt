@@ -7,7 +7,7 @@ use Rattle.grid_header.specs.declared.header.Header.{Header}
 use Rattle.grid_header.specs.declared.numbers.Triple.{Triple}
 use Rattle.grid_header.specs.declared.numbers.Numbers.{Numbers}
 use Rattle.grid_header.specs.Numbers.{is_count, is_spacing, is_coordinate, are_counts}
-use Rattle.grid_header.specs.Fields.{three_numbers, IsHeaderOf}
+use Rattle.grid_header.specs.Inside.Fields.{three_numbers, IsHeaderOf}
 use Rattle.grid_header.specs.Reading.{IsCount, IsCoordinate, IsSpacing, IsValidHeader}
 
 -- both parts of a test that holds

@@ -6,8 +6,8 @@ use Rattle.grid_header.specs.declared.header.Header.{Header}
 use Rattle.grid_header.specs.declared.words.Axes.{Axes}
 use Rattle.grid_header.specs.declared.words.HeaderWords.{HeaderWords}
 use Rattle.grid_header.specs.declared.numbers.Numbers.{Numbers}
-use Rattle.grid_header.specs.Parts.{AreHeaderWords, three_words}
-use Rattle.grid_header.specs.Fields.{AreNumbersOf, IsHeaderOf}
+use Rattle.grid_header.specs.Inside.Parts.{AreHeaderWords, three_words}
+use Rattle.grid_header.specs.Inside.Fields.{AreNumbersOf, IsHeaderOf}
 use Rattle.grid_header.specs.Reading.{IsReading}
 
 -- what holds of a value holds of it as a success

@@ -2,5 +2,4 @@ pub mod Layout
 pub mod Numbers
 pub mod Causes
 pub mod Reading
-pub mod Parts
-pub mod Fields
+pub mod Inside

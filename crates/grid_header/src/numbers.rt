@@ -3,8 +3,8 @@ ghost use Rattle.std.specs.Prelude.{◌≡◌, ◌*◌, ◌≤◌, nat_le, true,
 ghost use Rattle.std.specs.List.{list_all};
 ghost use Rattle.fixed_decimal.specs.Value.{millionths_of, whole_of};
 ghost use Rattle.grid_header.specs.Numbers.{is_count, are_counts, is_spacing, is_coordinate};
-ghost use Rattle.grid_header.specs.Parts.{three_words};
-ghost use Rattle.grid_header.specs.Fields.{three_numbers, AreNumbersOf, has_all_numbers, are_all_within, IsHeaderOf};
+ghost use Rattle.grid_header.specs.Inside.Parts.{three_words};
+ghost use Rattle.grid_header.specs.Inside.Fields.{three_numbers, AreNumbersOf, has_all_numbers, are_all_within, IsHeaderOf};
 ghost use Rattle.grid_header.specs.Reading.{IsValidHeader};
 
 use crate::header::Header;

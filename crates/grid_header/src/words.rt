@@ -4,7 +4,7 @@ ghost use Rattle.text_terms.specs.Lines.{lines_of};
 ghost use Rattle.text_terms.specs.Words.{words_of};
 ghost use Rattle.edt_text.specs.WordCursor.{words_left};
 ghost use Rattle.grid_header.specs.Layout.{has_shape, three_from};
-ghost use Rattle.grid_header.specs.Parts.{three_words, AreGridWords, AreHeaderWords};
+ghost use Rattle.grid_header.specs.Inside.Parts.{three_words, AreGridWords, AreHeaderWords};
 
 use edt_text::{Lines, Words};
 

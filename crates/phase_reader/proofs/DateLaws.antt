@@ -12,7 +12,7 @@ use Rattle.jiff_core.specs.declared.civil.date.Date.{Date}
 use Rattle.text_terms.proofs.Cases.{by_bool}
 use Rattle.fixed_decimal.specs.Value.{millionths_of}
 use Rattle.phase_reader.specs.PickFields.{digits_of, year_of, month_of, day_of, is_date, is_clock, date_of, clock_of, clock_microseconds, weight_of, day_number}
-use Rattle.phase_reader.specs.PickDays.{civil_day, IsPickDay}
+use Rattle.phase_reader.specs.Inside.PickDays.{civil_day, IsPickDay}
 use Rattle.phase_reader.specs.declared.values.CivilDay.{CivilDay}
 
 -- a word that is no number is no date and no clock

@@ -13,7 +13,7 @@ use Rattle.phase_reader.specs.LineKinds.{NumberedLine, kind_of, parts, counts, p
 use Rattle.phase_reader.specs.PickFields.{pick_of}
 use Rattle.phase_reader.specs.PhaseEvents.{is_event, events_of_parts, event_lines, last_part, parts_before_last, open_lines, closed_lines, events_of, passes_limit}
 use Rattle.phase_reader.specs.PhaseFile.{picks_of_events}
-use Rattle.phase_reader.specs.Drafts.{as_event, Follows}
+use Rattle.phase_reader.specs.Inside.Drafts.{as_event, Follows}
 use Rattle.phase_reader.proofs.EventLaws.{split_some, last_cut, last_of_snoc, before_of_snoc, split_snoc_yes, split_snoc_no}
 
 -- nothing behind a list

@@ -7,7 +7,8 @@ use Rattle.std.proofs.lemmas.Grind.{common_steps}
 use Rattle.phase_reader.specs.declared.draft.Draft.{Draft}
 use Rattle.phase_reader.specs.declared.phases.Pick.{Pick}
 use Rattle.phase_reader.specs.PhaseEvents.{passes_limit}
-use Rattle.phase_reader.specs.Limits.{IsPick, AreNear, AreNearFirst, IsDraft}
+use Rattle.phase_reader.specs.Limits.{IsPick, AreNear, AreNearFirst}
+use Rattle.phase_reader.specs.Inside.DraftLimits.{IsDraft}
 
 -- a pick that passes no limit is near the first, and there is room for it
 record HasRoom (events : ℕ) (picks : List Pick) (pick : Pick) : Type 0 where

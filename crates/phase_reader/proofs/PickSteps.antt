@@ -10,7 +10,7 @@ use Rattle.phase_reader.specs.declared.fault.PhaseCause.TheVariants.{Name, Date,
 use Rattle.phase_reader.specs.PickWords.{PickWords}
 use Rattle.phase_reader.specs.PickFields.{date_of, clock_of, clock_microseconds, is_seconds, weight_of, time_of, pick_of_words}
 use Rattle.phase_reader.specs.PickFaults.{words_fault, seconds_fault, is_weight}
-use Rattle.phase_reader.specs.PickDays.{civil_day}
+use Rattle.phase_reader.specs.Inside.PickDays.{civil_day}
 
 -- the words from left to right: each record has one more word that is read
 pub record Named (words : PickWords) : Type 0 where

@@ -19,7 +19,7 @@ use Rattle.phase_reader.specs.LineKinds.{NumberedLine, numbered_lines}
 use Rattle.phase_reader.specs.PickFields.{pick_of}
 use Rattle.phase_reader.specs.PhaseEvents.{closed_lines}
 use Rattle.phase_reader.specs.PhaseFile.{fault_after, fault_at, picks_of_events, IsReading, IsPhaseFault}
-use Rattle.phase_reader.specs.Drafts.{as_event, Follows}
+use Rattle.phase_reader.specs.Inside.Drafts.{as_event, Follows}
 use Rattle.phase_reader.proofs.ListLaws.{IsHere, drop_here, drop_none, IsNumbered, numbered_here}
 use Rattle.phase_reader.proofs.DraftSteps.{events_cut}
 

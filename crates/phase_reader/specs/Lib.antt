@@ -2,8 +2,7 @@ pub mod LineKinds
 pub mod PickWords
 pub mod PickFields
 pub mod PickFaults
-pub mod PickDays
 pub mod PhaseEvents
 pub mod PhaseFile
-pub mod Drafts
 pub mod Limits
+pub mod Inside

@@ -1,7 +1,6 @@
 -- The limits within which the values of a phase file are.
-use Rattle.std.specs.Prelude.{min, ◌+◌, ◌*◌, ◌^◌, ◌≤◌, ◌<◌, IsTrue, List, [], ◌∷◌, length, All, ◌-ℤ◌, unsigned_abs}
+use Rattle.std.specs.Prelude.{◌*◌, ◌^◌, ◌≤◌, ◌<◌, IsTrue, List, [], ◌∷◌, length, All, ◌-ℤ◌, unsigned_abs}
 use Rattle.text_terms.specs.Names.{is_name}
-use Rattle.phase_reader.specs.declared.draft.Draft.{Draft}
 use Rattle.phase_reader.specs.declared.phases.Pick.{Pick}
 use Rattle.phase_reader.specs.declared.phases.Event.{Event}
 
@@ -28,11 +27,3 @@ pub record IsEvent (event : Event) : Type 0 where
   pub few : length event.picks.items ≤ 4096
   pub picks : All IsPick event.picks.items
   pub near : AreNearFirst event.picks.items
-
--- the events of a draft are within their limits, and so are the picks behind the last blank line
-pub record IsDraft (draft : Draft) : Type 0 where
-  pub count : length draft.events.items + min 1 (length draft.picks.items) ≤ 10000
-  pub events : All IsEvent draft.events.items
-  pub few : length draft.picks.items ≤ 4096
-  pub picks : All IsPick draft.picks.items
-  pub near : AreNearFirst draft.picks.items

@@ -11,8 +11,9 @@ ghost use Rattle.phase_reader.specs.PickFields.{pick_of_words, pick_of};
 ghost use Rattle.phase_reader.specs.PickFaults.{words_fault, pick_fault};
 ghost use Rattle.phase_reader.specs.PhaseEvents.{passes_limit};
 ghost use Rattle.phase_reader.specs.PhaseFile.{fault_after, picks_of_events};
-ghost use Rattle.phase_reader.specs.Drafts.{field_words, as_event, Follows};
-ghost use Rattle.phase_reader.specs.Limits.{IsPick, IsEvent, IsDraft};
+ghost use Rattle.phase_reader.specs.Inside.Drafts.{field_words, as_event, Follows};
+ghost use Rattle.phase_reader.specs.Limits.{IsPick, IsEvent};
+ghost use Rattle.phase_reader.specs.Inside.DraftLimits.{IsDraft};
 
 use crate::fault::PhaseCause;
 use crate::fields::{Fields, read_fields};

@@ -2,7 +2,7 @@
 ghost use Rattle.std.specs.Prelude.{◌≡◌, ◌+◌, ◌<◌, ◌≤◌, length, drop, slice_get, option_copied, IfSome, IfNone};
 ghost use Rattle.edt_text.specs.WordCursor.{words_left};
 ghost use Rattle.phase_reader.specs.PickWords.{pick_words};
-ghost use Rattle.phase_reader.specs.Drafts.{field_words};
+ghost use Rattle.phase_reader.specs.Inside.Drafts.{field_words};
 
 use edt_text::Words;
 

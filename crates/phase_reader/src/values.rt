@@ -5,7 +5,7 @@ ghost use Rattle.std.specs.Result.{result_ok};
 ghost use Rattle.fixed_decimal.specs.Value.{millionths_of};
 ghost use Rattle.phase_reader.specs.PickFields.{digits_of, date_of, clock_of, clock_microseconds, is_date, is_clock, is_seconds, weight_of};
 ghost use Rattle.phase_reader.specs.PickFaults.{seconds_fault, is_weight};
-ghost use Rattle.phase_reader.specs.PickDays.{civil_day, IsPickDay};
+ghost use Rattle.phase_reader.specs.Inside.PickDays.{civil_day, IsPickDay};
 
 use crate::fault::PhaseCause;
 use fixed_decimal::read_millionths;

@@ -9,7 +9,7 @@ use Rattle.station_table.specs.declared.keys.Place.TheVariants.{Absent}
 use Rattle.station_table.specs.declared.picks.Reason.{Reason}
 use Rattle.station_table.specs.declared.picks.Reason.TheVariants.{Duplicate, NoGrid, Far, BeyondMax}
 use Rattle.station_table.specs.Distances.{is_too_far}
-use Rattle.station_table.specs.Drafts.{late_reason, is_met}
+use Rattle.station_table.specs.Inside.Drafts.{late_reason, is_met}
 use Rattle.station_table.specs.Keys.{key_of, key_place, source_of}
 use Rattle.station_table.specs.Reasons.{where_so, first_reason, early_reason}
 use Rattle.station_table.specs.Using.{reason_of, reason_by_itself, used_picks, is_duplicate, is_absent, is_beyond, is_full}

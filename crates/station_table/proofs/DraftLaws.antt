@@ -9,7 +9,7 @@ use Rattle.station_table.specs.declared.draft.Rules.{Rules}
 use Rattle.station_table.specs.declared.picks.Reason.{Reason}
 use Rattle.station_table.specs.declared.picks.Skip.{Skip}
 use Rattle.station_table.specs.declared.picks.UsedPick.{UsedPick}
-use Rattle.station_table.specs.Drafts.{Notes, Follows}
+use Rattle.station_table.specs.Inside.Drafts.{Notes, Follows}
 use Rattle.station_table.specs.Keys.{key_of, key_place}
 use Rattle.station_table.specs.Using.{used_picks, skipped_picks, reason_of, if_used, if_skipped, used_pick_at, skip}
 use Rattle.station_table.proofs.UsingLaws.{used_push, skipped_push}

@@ -11,7 +11,7 @@ use Rattle.control_reader.specs.ControlValues.{ControlValues, values_of}
 use Rattle.phase_reader.specs.declared.phases.Pick.{Pick}
 use Rattle.station_table.specs.declared.draft.Rules.{Rules}
 use Rattle.station_table.specs.declared.keys.GridKey.{GridKey}
-use Rattle.station_table.specs.Drafts.{Notes, is_at, is_met}
+use Rattle.station_table.specs.Inside.Drafts.{Notes, is_at, is_met}
 use Rattle.station_table.specs.Keys.{same_key, key_for, key_of, key_place, is_wanted}
 use Rattle.station_table.specs.Stations.{station_of, phase_of}
 use Rattle.station_table.specs.Using.{are_of_one_phase, is_duplicate}

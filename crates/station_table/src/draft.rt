@@ -6,7 +6,7 @@ ghost use Rattle.control_reader.specs.ControlValues.{values_of};
 ghost use Rattle.control_reader.specs.Limits.{IsControl};
 ghost use Rattle.phase_reader.specs.declared.phases.Pick.{Pick};
 ghost use Rattle.phase_reader.specs.Limits.{IsPick};
-ghost use Rattle.station_table.specs.Drafts.{AreRules, Notes, Follows};
+ghost use Rattle.station_table.specs.Inside.Drafts.{AreRules, Notes, Follows};
 ghost use Rattle.station_table.specs.Keys.{key_of, key_place, same_key, is_wanted};
 ghost use Rattle.station_table.specs.Limits.{HoldsKeyOf, IsPlace, KeysDiffer};
 ghost use Rattle.station_table.specs.Reasons as reasons;

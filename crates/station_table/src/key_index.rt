@@ -3,7 +3,7 @@ ghost use Rattle.std.specs.Prelude.{◌≡◌, ◌<◌, [], Some, IsTrue, IfOk, 
 ghost use Rattle.std.specs.List.{list_any};
 ghost use Rattle.indexmap.specs.IndexSet.{insert_key};
 ghost use Rattle.station_table.specs.Keys.{same_key, key_place};
-ghost use Rattle.station_table.specs.KeyWords.{as_key};
+ghost use Rattle.station_table.specs.Inside.KeyWords.{as_key};
 ghost use Rattle.station_table.specs.Limits.{KeysDiffer};
 
 use crate::key_words::KeyWords;
@@ -21,7 +21,7 @@ pub(crate) struct KeyIndex<'a> {
 impl<'a> Model for KeyIndex<'a> {
     ghost use Rattle.std.specs.Prelude.{List, map};
     ghost use Rattle.station_table.specs.declared.keys.GridKey.{GridKey};
-    ghost use Rattle.station_table.specs.KeyWords.{as_key};
+    ghost use Rattle.station_table.specs.Inside.KeyWords.{as_key};
 
     ghost Value = { List GridKey };
 

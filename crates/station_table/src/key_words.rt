@@ -2,7 +2,7 @@
 ghost use Rattle.std.specs.Prelude.{◌≡◌, IfOk};
 ghost use Rattle.control_reader.specs.ControlValues.{values_of};
 ghost use Rattle.station_table.specs.Keys.{key_for, is_converted as spec_is_converted};
-ghost use Rattle.station_table.specs.KeyWords.{as_key};
+ghost use Rattle.station_table.specs.Inside.KeyWords.{as_key};
 
 use crate::keys::GridKey;
 use control_reader::Control;

@@ -4,7 +4,7 @@ ghost use Rattle.control_reader.specs.ControlValues.{values_of};
 ghost use Rattle.control_reader.specs.Limits.{IsControl};
 ghost use Rattle.station_table.specs.Stations.{station_of, phase_of};
 ghost use Rattle.station_table.specs.Reasons as spec;
-ghost use Rattle.station_table.specs.Drafts as noted;
+ghost use Rattle.station_table.specs.Inside.Drafts as noted;
 ghost use Rattle.station_table.specs.Using as rule;
 ghost use Rattle.station_table.specs.Limits.{IsPlace};
 

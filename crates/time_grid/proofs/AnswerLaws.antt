@@ -18,7 +18,7 @@ use Rattle.time_grid.specs.declared.selections.Selection.{Selection}
 use Rattle.time_grid.specs.Alignment.{search_times, time_at, time_grid_size, time_node}
 use Rattle.time_grid.specs.GridFaults.{ReadsBody}
 use Rattle.time_grid.specs.Numbers.{IsTime, body_times, number_at}
-use Rattle.time_grid.specs.Selections.{AreSelected, AreTaken, IsSelection, selected_node, selection_size}
+use Rattle.time_grid.specs.Inside.Selections.{AreSelected, AreTaken, IsSelection, selected_node, selection_size}
 use Rattle.time_grid.specs.StreamFaults.{StreamsBody}
 use Rattle.time_grid.specs.TimeGrids.{IsTimeGrid}
 use Rattle.time_grid.proofs.FaultLaws.{body_times-at}

@@ -13,9 +13,9 @@ use Rattle.node_boxes.specs.GridOrder.{IsInside}
 use Rattle.time_grid.specs.declared.selections.Selection.{Selection}
 use Rattle.time_grid.specs.Bodies.{IsBehind, JudgesBody}
 use Rattle.time_grid.specs.Numbers.{IsFirstOver, IsTime, number_at}
-use Rattle.time_grid.specs.Cursors.{IsAhead, IsCursor, IsTaken}
+use Rattle.time_grid.specs.Inside.Cursors.{IsAhead, IsCursor, IsTaken}
 use Rattle.time_grid.specs.GridFaults.{ReadsBody}
-use Rattle.time_grid.specs.Selections.{AreTaken, selected_node, selection_size}
+use Rattle.time_grid.specs.Inside.Selections.{AreTaken, selected_node, selection_size}
 use Rattle.time_grid.proofs.NumberLaws.{same_number}
 use Rattle.time_grid.proofs.SelectionLaws.{cursor_inside}
 use Rattle.time_grid.proofs.FaultLaws.{fault_long, fault_of_times, fault_short}

@@ -16,8 +16,8 @@ use Rattle.time_grid.specs.declared.cursors.Cursor.{Cursor}
 use Rattle.time_grid.specs.declared.faults.Axis.TheVariants.{X, Y, Z}
 use Rattle.time_grid.specs.Alignment.{axis_of, time_grid_size, time_node}
 use Rattle.time_grid.specs.Axes.{ArePlaces}
-use Rattle.time_grid.specs.Selections.{IsSelection, selected_at, selected_node, selection_size}
-use Rattle.time_grid.specs.Cursors.{IsCursor}
+use Rattle.time_grid.specs.Inside.Selections.{IsSelection, selected_at, selected_node, selection_size}
+use Rattle.time_grid.specs.Inside.Cursors.{IsCursor}
 
 -- the place of a number that is made of a place
 pub place_of_done : (x y z ix iy iz : ℕ) → iy < y → iz < z → place_of (grid_size x y z) ((ix * y + iy) * z + iz) ≡ (ix, iy, iz)

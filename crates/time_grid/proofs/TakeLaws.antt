@@ -4,8 +4,8 @@ use Rattle.std.proofs.lemmas.Bool.{cases_lt}
 use Rattle.std.proofs.lemmas.List.{get_or-set_same, get_or-set_other}
 use Rattle.time_grid.specs.declared.numbers.ByteOrder.{ByteOrder}
 use Rattle.time_grid.specs.declared.selections.Selection.{Selection}
-use Rattle.time_grid.specs.Cursors.{IsTaken}
-use Rattle.time_grid.specs.Selections.{selected_node}
+use Rattle.time_grid.specs.Inside.Cursors.{IsTaken}
+use Rattle.time_grid.specs.Inside.Selections.{selected_node}
 
 -- one more number is put into the next place
 pub taken_more : (order : ByteOrder) (first : ℕ) (piece : List ℕ) (s : Selection) (into : List ℕ) (start done n v : ℕ) → done < length into

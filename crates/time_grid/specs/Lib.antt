@@ -4,6 +4,5 @@ pub mod GridFaults
 pub mod StreamFaults
 pub mod Axes
 pub mod Alignment
-pub mod Selections
-pub mod Cursors
 pub mod TimeGrids
+pub mod Inside

@@ -5,7 +5,7 @@ ghost use Rattle.node_boxes.specs.Grid.{node_count};
 ghost use Rattle.time_grid.specs.Bodies.{IsBehind, JudgesBody};
 ghost use Rattle.time_grid.specs.GridFaults.{ReadsBody, grid_absent, grid_failed};
 ghost use Rattle.time_grid.specs.Numbers.{IsFirstOver, IsTime, number_at};
-ghost use Rattle.time_grid.specs.Selections.{AreTaken, IsSelection, selection_size};
+ghost use Rattle.time_grid.specs.Inside.Selections.{AreTaken, IsSelection, selection_size};
 
 use crate::cursors::Cursor;
 use crate::faults::GridFault;

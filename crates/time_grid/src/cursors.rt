@@ -1,8 +1,8 @@
 //! A walk over the nodes that are taken, as their numbers pass by.
 ghost use Rattle.std.specs.Prelude.{◌≡◌, ℕ, ◌+◌, ◌/◌, ◌^◌, ◌<◌, ◌≤◌, length, slice_index};
 ghost use Rattle.node_boxes.specs.Grid.{node_count};
-ghost use Rattle.time_grid.specs.Cursors.{IsAhead, IsCursor, IsTaken};
-ghost use Rattle.time_grid.specs.Selections.{IsSelection, selected_node, selection_size};
+ghost use Rattle.time_grid.specs.Inside.Cursors.{IsAhead, IsCursor, IsTaken};
+ghost use Rattle.time_grid.specs.Inside.Selections.{IsSelection, selected_node, selection_size};
 
 use crate::numbers::{ByteOrder, number_at};
 use crate::selections::Selection;

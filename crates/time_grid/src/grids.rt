@@ -7,7 +7,7 @@ ghost use Rattle.node_boxes.specs.Grid.{node_count};
 ghost use Rattle.time_grid.specs.Alignment.{first_unaligned_axis, search_times, time_grid_size};
 ghost use Rattle.time_grid.specs.GridFaults.{ReadsBody, grid_absent, grid_failed};
 ghost use Rattle.time_grid.specs.Numbers.{IsTime, body_times};
-ghost use Rattle.time_grid.specs.Selections.{AreSelected, IsSelection, selection_size};
+ghost use Rattle.time_grid.specs.Inside.Selections.{AreSelected, IsSelection, selection_size};
 ghost use Rattle.time_grid.specs.TimeGrids.{IsTimeGrid};
 
 use crate::body::read_body;

@@ -1,7 +1,7 @@
 //! What the words of `LOCFILES` and `INCLUDE` say.
 ghost use Rattle.std.specs.Prelude.{◌≡◌, ◌≢◌, ◌≤◌, false, ◌==◌, ◌&&◌, pos, length, IfOk, IfErr, OnOk, IsTrue, None, Some};
 ghost use Rattle.text_terms.specs.Names.{is_name};
-ghost use Rattle.control_reader.specs.Arguments.{argument_words};
+ghost use Rattle.control_reader.specs.Inside.Arguments.{argument_words};
 ghost use Rattle.control_reader.specs.Words.{count_at};
 ghost use Rattle.control_reader.specs.Values.{has_word, files_of, include_of};
 ghost use Rattle.control_reader.specs.WordFaults.{from_to, optional, whole_fault, files_fault, include_fault};

@@ -2,7 +2,7 @@
 ghost use Rattle.std.specs.Prelude.{◌≡◌, ◌≤◌, ◌*◌, nat_le, true, length, IfOk, IfErr, OnOk, None, Some};
 ghost use Rattle.node_boxes.specs.Frame.{IsValidFrame};
 ghost use Rattle.node_boxes.specs.Grid.{IsGrid, grid_size};
-ghost use Rattle.control_reader.specs.Arguments.{argument_words};
+ghost use Rattle.control_reader.specs.Inside.Arguments.{argument_words};
 ghost use Rattle.control_reader.specs.Words.{word_at, count_at};
 ghost use Rattle.control_reader.specs.Values.{frame_of};
 ghost use Rattle.control_reader.specs.WordFaults.{axis_fault, frame_fault};

@@ -1,6 +1,6 @@
 //! What the words of `LOCMETH` say.
 ghost use Rattle.std.specs.Prelude.{◌≡◌, ◌≤◌, ◌<◌, ◌^◌, ◌≤ℤ◌, ◌==◌, ◌&&◌, not, if◌then◌else◌, true, pos, negsuc, unsigned_abs, length, IfOk, IfErr, OnOk, None, Some};
-ghost use Rattle.control_reader.specs.Arguments.{argument_words};
+ghost use Rattle.control_reader.specs.Inside.Arguments.{argument_words};
 ghost use Rattle.control_reader.specs.Words.{count_at, millionths_at};
 ghost use Rattle.control_reader.specs.Values.{has_word, method_of};
 ghost use Rattle.control_reader.specs.WordFaults.{any, optional, whole_fault, distance_fault, method_fault};

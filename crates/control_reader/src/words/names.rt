@@ -3,7 +3,7 @@ ghost use Rattle.std.specs.Prelude.{◌≡◌, ◌≢◌, ◌<◌, ◌≤◌, fa
 ghost use Rattle.std.specs.List.{list_all, list_any};
 ghost use Rattle.std.specs.Str.{bytes_eq};
 ghost use Rattle.text_terms.specs.Names.{is_name, is_name_byte};
-ghost use Rattle.control_reader.specs.Arguments.{argument_words};
+ghost use Rattle.control_reader.specs.Inside.Arguments.{argument_words};
 ghost use Rattle.control_reader.specs.Words.{word_at};
 ghost use Rattle.control_reader.specs.WordFaults.{name_fault, is_wildcard};
 

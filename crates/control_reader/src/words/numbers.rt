@@ -1,7 +1,7 @@
 //! Numbers at the places of words, each with its reading before its range.
 ghost use Rattle.std.specs.Prelude.{◌≡◌, ◌≤◌, ◌<◌, ◌^◌, ◌≤ℤ◌, unsigned_abs, IfOk, IfErr, OnOk, OnErr, None, Some};
 ghost use Rattle.fixed_decimal.specs.Value.{millionths_of, whole_of};
-ghost use Rattle.control_reader.specs.Arguments.{argument_words};
+ghost use Rattle.control_reader.specs.Inside.Arguments.{argument_words};
 ghost use Rattle.control_reader.specs.Words.{word_at, whole_at, millionths_at};
 ghost use Rattle.control_reader.specs.WordFaults.{whole_fault, decimal_fault, any, from_to, at_most, in_size};
 

@@ -1,7 +1,7 @@
 //! What the words of the statements on stations and phases say: `LOCPHASEID`, `LOCEXCLUDE`, `LOCDELAY` and `LOCALIAS`.
 ghost use Rattle.std.specs.Prelude.{◌≡◌, ◌≢◌, ◌≤◌, ◌++◌, ◌+◌, false, [], ◌∷◌, length, IfOk, IfErr, OnOk, IsTrue, All, None, Some};
 ghost use Rattle.text_terms.specs.Names.{is_name};
-ghost use Rattle.control_reader.specs.Arguments.{argument_words};
+ghost use Rattle.control_reader.specs.Inside.Arguments.{argument_words};
 ghost use Rattle.control_reader.specs.Limits.{IsPhaseId, IsExclude, IsDelay, IsAlias};
 ghost use Rattle.control_reader.specs.Words.{word_at, whole_at};
 ghost use Rattle.control_reader.specs.Values.{phase_ids_of, exclude_of, delay_of, alias_of};

@@ -1,6 +1,6 @@
 //! What the words of the statements that guide the search say: `LOCGAU`, `LOCSEARCH`, `CONTROL`, `EDTNEAR` and `EDTBUDGET`.
 ghost use Rattle.std.specs.Prelude.{◌≡◌, ◌≤◌, ◌^◌, length, IfOk, IfErr, OnOk, None, Some};
-ghost use Rattle.control_reader.specs.Arguments.{argument_words};
+ghost use Rattle.control_reader.specs.Inside.Arguments.{argument_words};
 ghost use Rattle.control_reader.specs.Limits.{IsCellCount};
 ghost use Rattle.control_reader.specs.Words.{whole_at};
 ghost use Rattle.control_reader.specs.Values.{cells_of_number, sigma_of, cells_of, seed_of, count_of};

@@ -2,7 +2,7 @@ use Rattle.std.proofs.Common.{◌<◌, ◌≤◌, length, ◌∙◌, arith}
 use Rattle.std.specs.Prelude.{vec_len}
 use Rattle.std.proofs.lemmas.Result.{err_from_is_err_and}
 use Rattle.std.proofs.lemmas.Grind.{common_steps}
-use Rattle.control_reader.specs.Arguments.{argument_words}
+use Rattle.control_reader.specs.Inside.Arguments.{argument_words}
 use Rattle.control_reader.specs.ControlLines.{ControlLine, arguments_of}
 use Rattle.control_reader.proofs.NameSteps.{IsIncludeLine, include_by_kind, names_other, good_other, name_long, name_few, name_words, name_limit, name_good, names_more, pushed_value, pushed_good, pushed_fault, pushed_length}
 use Rattle.control_reader.proofs.includes.take_name.Goals as goal

@@ -1,6 +1,6 @@
 use Rattle.std.proofs.Common.{◌≡◌, None, Some, length, vec_len, ap, arith}
-use Rattle.control_reader.specs.Said.{control_line}
-use Rattle.control_reader.specs.IncludeNames.{name_fault_by}
+use Rattle.control_reader.specs.Inside.Said.{control_line}
+use Rattle.control_reader.specs.Inside.IncludeNames.{name_fault_by}
 use Rattle.control_reader.proofs.IncludeSteps.{reads_no_names, names_next, names_fault, names_all, names_count}
 use Rattle.control_reader.proofs.reading.include_names.Goals as goal
 

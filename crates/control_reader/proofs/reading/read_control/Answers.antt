@@ -1,6 +1,6 @@
 use Rattle.std.specs.Prelude.{map}
 use Rattle.std.proofs.lemmas.Result.{IfOk-weaker}
-use Rattle.control_reader.specs.Said.{said_of}
+use Rattle.control_reader.specs.Inside.Said.{said_of}
 use Rattle.control_reader.proofs.CompletionSteps.{within_control, completed, missing_named}
 use Rattle.control_reader.proofs.reading.read_control.Goals as goal
 

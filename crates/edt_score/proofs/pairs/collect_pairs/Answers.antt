@@ -1,6 +1,6 @@
 use Rattle.std.proofs.Common.{append_assoc}
 use Rattle.std.proofs.lemmas.List.Elements.{All-rest}
-use Rattle.edt_score.specs.Pairs.{IsPairable}
+use Rattle.edt_score.specs.Inside.Pairs.{IsPairable}
 use Rattle.edt_score.proofs.pairs.collect_pairs.Goals as goal
 
 pub loop-first-preserved : goal.loop-first-preserved

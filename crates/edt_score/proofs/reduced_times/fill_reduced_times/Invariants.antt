@@ -1,6 +1,6 @@
 use Rattle.std.proofs.Common.{◌≡◌, map, take}
 use Rattle.edt_score.specs.Field.{time_at}
-use Rattle.edt_score.specs.Pairs.{reduced_time_of}
+use Rattle.edt_score.specs.Inside.Pairs.{reduced_time_of}
 use Rattle.edt_score.proofs.reduced_times.fill_reduced_times.Given as goal
 
 abbrev pub invariant-loop-i : goal.invariant-loop-i

@@ -1,7 +1,7 @@
 use Rattle.std.proofs.Common.{rules, arith, ◌<◌, pos, length, get_or, SFits, w64}
 use Rattle.std.proofs.lemmas.Int.{to_z-of_z}
 use Rattle.kernel_table.specs.Falloff.{shape_of}
-use Rattle.edt_score.specs.Pairs.{row_score}
+use Rattle.edt_score.specs.Inside.Pairs.{row_score}
 use Rattle.edt_score.proofs.RowTotals.{row_step, term-le}
 use Rattle.edt_score.proofs.reduced_times.row_score.Goals as goal
 

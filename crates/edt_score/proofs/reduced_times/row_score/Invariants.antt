@@ -1,6 +1,6 @@
 use Rattle.std.proofs.Common.{◌≡◌, ◌+◌, ◌*◌, ◌≤◌, drop}
 use Rattle.kernel_table.specs.Falloff.{shape_of}
-use Rattle.edt_score.specs.Pairs.{row_score}
+use Rattle.edt_score.specs.Inside.Pairs.{row_score}
 use Rattle.edt_score.proofs.reduced_times.row_score.Given as goal
 
 abbrev pub invariant-loop-i : goal.invariant-loop-i

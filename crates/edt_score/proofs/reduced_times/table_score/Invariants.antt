@@ -1,6 +1,6 @@
 use Rattle.std.proofs.Common.{◌≡◌, ◌+◌, ◌*◌, ◌≤◌, length}
 use Rattle.kernel_table.specs.Falloff.{shape_of}
-use Rattle.edt_score.specs.Pairs.{pair_count, table_score}
+use Rattle.edt_score.specs.Inside.Pairs.{pair_count, table_score}
 use Rattle.edt_score.proofs.reduced_times.table_score.Given as goal
 
 abbrev pub invariant-loop-first : goal.invariant-loop-first

@@ -1,6 +1,6 @@
 use Rattle.std.proofs.Common.{sym}
 use Rattle.text_terms.proofs.RunLaws.{runs-absent, runs-cut}
-use Rattle.edt_text.specs.Parting.{parting}
+use Rattle.edt_text.specs.Inside.Parting.{parting}
 use Rattle.edt_text.proofs.splitting.first_word.Goals as goal
 
 pub returns-in_default-clause-none : goal.returns-in_default-clause-none

@@ -6,7 +6,7 @@ use Rattle.station_table.specs.Limits.{IsKey}
 use Rattle.event_assembly.specs.declared.faults.AssembleFault.TheVariants.{Memory}
 use Rattle.event_assembly.specs.Assembling.{first_fault, keys_at}
 use Rattle.event_assembly.specs.Rows.{row_fault, row_times}
-use Rattle.event_assembly.specs.Reads.{IsConvertible, ReadsRows}
+use Rattle.event_assembly.specs.Inside.Reads.{IsConvertible, ReadsRows}
 use Rattle.event_assembly.proofs.CountLaws.{ended_more, ended_now, ended_any}
 use Rattle.event_assembly.proofs.ListLaws.{at_item, item_here}
 use Rattle.event_assembly.proofs.ReadLaws.{AreMade-none, AreMade-more, AreMade-refused, memory_refuses, passed_on}

@@ -1,7 +1,7 @@
 use Rattle.std.proofs.Common.{take}
 use Rattle.control_reader.specs.ControlValues.{values_of}
 use Rattle.phase_reader.specs.PhaseFile.{picks_of_events}
-use Rattle.event_assembly.specs.Deciding.{AreDecided}
+use Rattle.event_assembly.specs.Inside.Deciding.{AreDecided}
 use Rattle.event_assembly.proofs.deciding.decide.Given as goal
 
 abbrev pub invariant-loop-event : goal.invariant-loop-event

@@ -5,7 +5,7 @@ use Rattle.grid_header.specs.Reading.{IsValidHeader}
 use Rattle.control_reader.specs.ControlValues.{values_of}
 use Rattle.event_assembly.specs.Assembling.{first_fault}
 use Rattle.event_assembly.specs.Headers.{header_fault}
-use Rattle.event_assembly.specs.Reads.{header_in, ReadsHeaders}
+use Rattle.event_assembly.specs.Inside.Reads.{header_in, ReadsHeaders}
 use Rattle.event_assembly.proofs.CountLaws.{ended_more, lacks_more}
 use Rattle.event_assembly.proofs.ListLaws.{item_here}
 use Rattle.event_assembly.proofs.ReadLaws.{AreMade-more, AreMade-refused, passed_on}

@@ -5,7 +5,7 @@ use Rattle.edt_outside.specs.Counts.{Rose}
 use Rattle.grid_header.specs.Reading.{IsValidHeader}
 use Rattle.control_reader.specs.ControlValues.{values_of}
 use Rattle.event_assembly.specs.Headers.{header_fault}
-use Rattle.event_assembly.specs.Reads.{header_in}
+use Rattle.event_assembly.specs.Inside.Reads.{header_in}
 use Rattle.event_assembly.proofs.ReadLaws.{AreMade}
 use Rattle.event_assembly.proofs.headers.read_headers.Given as goal
 

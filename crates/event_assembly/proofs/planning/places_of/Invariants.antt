@@ -1,5 +1,5 @@
 use Rattle.std.proofs.Common.{◌≡◌, take}
-use Rattle.event_assembly.specs.Planning.{places_of_headers}
+use Rattle.event_assembly.specs.Inside.Planning.{places_of_headers}
 use Rattle.event_assembly.proofs.planning.places_of.Given as goal
 
 abbrev pub invariant-loop-header : goal.invariant-loop-header

@@ -1,5 +1,5 @@
 use Rattle.control_reader.specs.ControlValues.{values_of}
-use Rattle.event_assembly.specs.Problems.{ArePreparedBy}
+use Rattle.event_assembly.specs.Inside.Problems.{ArePreparedBy}
 use Rattle.event_assembly.proofs.problems.prepare.Given as goal
 
 abbrev pub invariant-loop-picks : goal.invariant-loop-picks

@@ -1,5 +1,5 @@
 use Rattle.std.proofs.Common.{◌≡◌, map, take}
-use Rattle.event_assembly.specs.Problems.{problem_pick}
+use Rattle.event_assembly.specs.Inside.Problems.{problem_pick}
 use Rattle.event_assembly.proofs.problems.problem_of.Given as goal
 
 abbrev pub invariant-loop-pick : goal.invariant-loop-pick

@@ -1,4 +1,4 @@
-use Rattle.event_assembly.specs.Deciding.{AreUsed}
+use Rattle.event_assembly.specs.Inside.Deciding.{AreUsed}
 use Rattle.event_assembly.proofs.ListLaws.{at_item}
 use Rattle.event_assembly.proofs.rows.mark_keys.Goals as goal
 

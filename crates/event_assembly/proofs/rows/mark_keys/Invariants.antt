@@ -1,7 +1,7 @@
 use Rattle.std.proofs.Common.{◌≡◌, ℕ, take, get_or, length, false}
 use Rattle.std.specs.List.{list_any}
 use Rattle.control_reader.specs.ControlValues.{values_of}
-use Rattle.event_assembly.specs.Numbering.{needs_key}
+use Rattle.event_assembly.specs.Inside.Numbering.{needs_key}
 use Rattle.event_assembly.proofs.rows.mark_keys.Given as goal
 
 abbrev pub invariant-loop-picks : goal.invariant-loop-picks

@@ -1,6 +1,6 @@
 use Rattle.std.proofs.Common.{◌≡◌, ℕ, take, get_or, false}
 use Rattle.std.specs.Prelude.{◌||◌}
-use Rattle.event_assembly.specs.Numbering.{has_key}
+use Rattle.event_assembly.specs.Inside.Numbering.{has_key}
 use Rattle.event_assembly.proofs.rows.mark_used.Given as goal
 
 abbrev pub invariant-loop-pick : goal.invariant-loop-pick

@@ -1,7 +1,7 @@
 use Rattle.std.proofs.Common.{◌≡◌, Some, take, sym, ◌∙◌, arith}
 use Rattle.std.proofs.lemmas.Grind.{common_steps}
 use Rattle.fixed_decimal.specs.declared.form.State.TheVariants.{Start}
-use Rattle.fixed_decimal.specs.State.{run}
+use Rattle.fixed_decimal.specs.Inside.State.{run}
 use Rattle.fixed_decimal.proofs.LeavingLaws.{leaves_at, leaves_short, forms, run_more}
 use Rattle.fixed_decimal.proofs.form.first_fault.Goals as goal
 

@@ -1,6 +1,6 @@
 use Rattle.std.proofs.Common.{◌≡◌, Some, take}
 use Rattle.fixed_decimal.specs.declared.form.State.TheVariants.{Start}
-use Rattle.fixed_decimal.specs.State.{run}
+use Rattle.fixed_decimal.specs.Inside.State.{run}
 use Rattle.fixed_decimal.proofs.form.first_fault.Given as goal
 
 abbrev pub invariant-loop-place : goal.invariant-loop-place

@@ -1,6 +1,6 @@
 -- The reading goes through the words and their numbers.
-use Rattle.grid_header.specs.Parts.{AreHeaderWords}
-use Rattle.grid_header.specs.Fields.{AreNumbersOf}
+use Rattle.grid_header.specs.Inside.Parts.{AreHeaderWords}
+use Rattle.grid_header.specs.Inside.Fields.{AreNumbersOf}
 use Rattle.grid_header.specs.Reading.{IsReading}
 use Rattle.grid_header.proofs.ReadingLaws.{ok_or-then, ok_or-value, if_some-then, reading_is}
 use Rattle.grid_header.proofs.header.read_header.Goals as goal

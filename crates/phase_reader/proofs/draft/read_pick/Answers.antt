@@ -4,8 +4,8 @@ use Rattle.std.proofs.lemmas.Int.{to_z-of_z}
 use Rattle.std.proofs.lemmas.Result.{err_from_is_err_and}
 use Rattle.phase_reader.specs.declared.values.CivilDay.{CivilDay}
 use Rattle.phase_reader.specs.PickFields.{date_of, clock_of, clock_microseconds}
-use Rattle.phase_reader.specs.PickDays.{civil_day}
-use Rattle.phase_reader.specs.Drafts.{field_words}
+use Rattle.phase_reader.specs.Inside.PickDays.{civil_day}
+use Rattle.phase_reader.specs.Inside.Drafts.{field_words}
 use Rattle.phase_reader.proofs.PickSteps.{Named, Dated, Clocked, Timed, Typed, Measured, mapped_some, mapped_none, station_fault, phase_fault, date_fault, clock_fault, second_fault, type_fault, error_fault, weight_fault, no_fault, pick_is}
 use Rattle.phase_reader.proofs.draft.read_pick.Goals as goal
 

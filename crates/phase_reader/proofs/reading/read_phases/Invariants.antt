@@ -1,6 +1,6 @@
 use Rattle.std.proofs.Common.{length}
 use Rattle.edt_text.specs.LineCursor.{lines_left}
-use Rattle.phase_reader.specs.Limits.{IsDraft}
+use Rattle.phase_reader.specs.Inside.DraftLimits.{IsDraft}
 use Rattle.phase_reader.proofs.ReadSteps.{Reads}
 use Rattle.phase_reader.proofs.reading.read_phases.Given as goal
 

@@ -1,6 +1,6 @@
 use Rattle.std.proofs.Common.{sym, ◌∙◌, ap}
 use Rattle.std.specs.Option.{option_map}
-use Rattle.phase_reader.specs.PickDays.{civil_day}
+use Rattle.phase_reader.specs.Inside.PickDays.{civil_day}
 use Rattle.phase_reader.proofs.DateLaws.{date_none, date_number}
 use Rattle.phase_reader.proofs.values.read_date.Goals as goal
 

@@ -3,7 +3,7 @@ use Rattle.std.specs.Prelude.{◌-ℤ◌, unsigned_abs}
 use Rattle.std.specs.List.{AllPairs}
 use Rattle.std.proofs.lemmas.List.{take_more, take_all}
 use Rattle.control_reader.specs.ControlValues.{values_of}
-use Rattle.station_table.specs.Drafts.{Follows}
+use Rattle.station_table.specs.Inside.Drafts.{Follows}
 use Rattle.station_table.specs.Limits.{IsUsedPick}
 use Rattle.station_table.specs.Using.{used_picks}
 use Rattle.station_table.proofs.LimitLaws.{used_within, used_near}

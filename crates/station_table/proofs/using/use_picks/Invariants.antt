@@ -1,5 +1,5 @@
 use Rattle.std.proofs.Common.{take}
-use Rattle.station_table.specs.Drafts.{Follows}
+use Rattle.station_table.specs.Inside.Drafts.{Follows}
 use Rattle.station_table.proofs.using.use_picks.Given as goal
 
 abbrev pub invariant-loop-pick : goal.invariant-loop-pick

@@ -1,7 +1,7 @@
 use Rattle.std.proofs.Common.{arith, ◌≡◌, ◌+◌, ◌≤◌, length, ◌∙◌, take, refl}
 use Rattle.std.proofs.lemmas.List.{length-take-le}
 use Rattle.node_boxes.specs.Grid.{node_count}
-use Rattle.time_grid.specs.Selections.{selection_size}
+use Rattle.time_grid.specs.Inside.Selections.{selection_size}
 use Rattle.time_grid.proofs.BodyLaws.{Came-none, Came-more, Came-ends, Came-long, cursor_ends, limit_ends, limit_more}
 use Rattle.time_grid.proofs.body.read_open.Goals as goal
 

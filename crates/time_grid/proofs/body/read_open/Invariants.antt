@@ -1,5 +1,5 @@
 use Rattle.std.proofs.Common.{◌≡◌, ℕ, ◌+◌, ◌-◌, ◌*◌, ◌<◌, ◌≤◌, length, slice_index, IfSome, None}
-use Rattle.time_grid.specs.Cursors.{IsAhead, IsCursor}
+use Rattle.time_grid.specs.Inside.Cursors.{IsAhead, IsCursor}
 use Rattle.time_grid.specs.Numbers.{IsTime}
 use Rattle.time_grid.proofs.BodyLaws.{Came}
 use Rattle.time_grid.proofs.body.read_open.Given as goal

@@ -1,5 +1,5 @@
 use Rattle.std.proofs.Common.{arith, ◌≡◌, ◌+◌, ◌∙◌, length, ap, refl, sym}
-use Rattle.time_grid.specs.Selections.{selected_node}
+use Rattle.time_grid.specs.Inside.Selections.{selected_node}
 use Rattle.time_grid.proofs.AnswerLaws.{selected_below, selected_more}
 use Rattle.time_grid.proofs.grids.selected_times.Goals as goal
 

@@ -1,6 +1,6 @@
 use Rattle.std.proofs.Common.{◌≡◌, ℕ, ◌<◌, length, slice_index}
-use Rattle.time_grid.specs.Cursors.{IsCursor}
-use Rattle.time_grid.specs.Selections.{selected_node}
+use Rattle.time_grid.specs.Inside.Cursors.{IsCursor}
+use Rattle.time_grid.specs.Inside.Selections.{selected_node}
 use Rattle.time_grid.proofs.grids.selected_times.Given as goal
 
 abbrev pub invariant-loop : goal.invariant-loop

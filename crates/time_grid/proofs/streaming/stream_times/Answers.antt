@@ -4,7 +4,7 @@ use Rattle.node_boxes.specs.Grid.{node_count}
 use Rattle.time_grid.specs.Alignment.{search_times, time_grid_size}
 use Rattle.time_grid.specs.GridFaults.{ReadsBody}
 use Rattle.time_grid.specs.Numbers.{body_times}
-use Rattle.time_grid.specs.Selections.{AreTaken}
+use Rattle.time_grid.specs.Inside.Selections.{AreTaken}
 use Rattle.time_grid.proofs.AnswerLaws.{selected_search_times, stream_good, taken_are_selected}
 use Rattle.time_grid.proofs.streaming.stream_times.Goals as goal
 

@@ -1,5 +1,5 @@
 use Rattle.std.proofs.Common.{◌∙◌, ap}
-use Rattle.control_reader.specs.Said.{Said, said_of, control_line}
+use Rattle.control_reader.specs.Inside.Said.{Said, said_of, control_line}
 use Rattle.control_reader.proofs.LineSteps.{follows_line, fault_follows, includes_line, passed_line, outer_line}
 use Rattle.control_reader.proofs.draft.Draft.take_line.Goals as goal
 

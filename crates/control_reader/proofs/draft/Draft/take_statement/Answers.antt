@@ -1,9 +1,9 @@
 use Rattle.std.proofs.Common.{◌≤◌, length, sym, ◌∙◌, ap, arith}
 use Rattle.std.proofs.lemmas.Result.{err_from_is_err_and}
 use Rattle.std.proofs.lemmas.Grind.{common_steps}
-use Rattle.control_reader.specs.Arguments.{argument_words}
+use Rattle.control_reader.specs.Inside.Arguments.{argument_words}
 use Rattle.control_reader.specs.Keywords.{least_of}
-use Rattle.control_reader.specs.Said.{Said, said_of}
+use Rattle.control_reader.specs.Inside.Said.{Said, said_of}
 use Rattle.control_reader.proofs.StatementFaults.{MayStand, fault_nested, fault_not_yet, fault_repeated, fault_few, fault_words, fault_limit, fault_none}
 use Rattle.control_reader.proofs.draft.Draft.take_statement.Goals as goal
 

@@ -1,7 +1,7 @@
 use Rattle.std.proofs.Common.{◌≡◌, false, true, FitsSigned, w64, rules}
 use Rattle.std.proofs.lemmas.Int.{to_z-of_z}
 use Rattle.control_reader.proofs.GridLimits.{axis_is, too_many_nodes}
-use Rattle.control_reader.specs.Arguments.{argument_words}
+use Rattle.control_reader.specs.Inside.Arguments.{argument_words}
 use Rattle.control_reader.proofs.words.frame.read_grid.Goals as goal
 
 pub returns-in-None-clause-fault : goal.returns-in-None-clause-fault

@@ -2,7 +2,7 @@ use Rattle.std.proofs.Common.{◌≡◌, ◌++◌, ◌∷◌, [], true, Some, su
 use Rattle.std.proofs.lemmas.Result.{err_from_is_err_and}
 use Rattle.edt_text.specs.WordCursor.{words_left}
 use Rattle.text_terms.specs.Names.{is_name}
-use Rattle.control_reader.specs.Arguments.{argument_words}
+use Rattle.control_reader.specs.Inside.Arguments.{argument_words}
 use Rattle.control_reader.specs.Limits.{IsPhaseId}
 use Rattle.control_reader.specs.Words.{word_at}
 use Rattle.control_reader.proofs.PhaseIdSteps.{id_of, are_names, one_more, one_more_good, no_more, name_passes, name_fails, first_fault, code_fault, no_fault}

@@ -1,6 +1,6 @@
 use Rattle.std.proofs.Common.{◌≡◌, ◌++◌, map, length, drop, All}
 use Rattle.edt_text.specs.WordCursor.{words_left}
-use Rattle.control_reader.specs.Arguments.{argument_words}
+use Rattle.control_reader.specs.Inside.Arguments.{argument_words}
 use Rattle.control_reader.specs.Limits.{IsPhaseId}
 use Rattle.control_reader.specs.Words.{word_at}
 use Rattle.control_reader.proofs.PhaseIdSteps.{id_of, are_names}

@@ -4,13 +4,13 @@ use Rattle.control_reader.specs.ControlValues.{values_of}
 use Rattle.phase_reader.specs.declared.phases.Event.{Event}
 use Rattle.phase_reader.specs.PhaseFile.{picks_of_events}
 use Rattle.station_table.specs.Limits.{HoldsKeysOf}
-use Rattle.event_assembly.specs.Deciding.{AreDecided}
-use Rattle.event_assembly.specs.Numbering.{AreNumbered}
-use Rattle.event_assembly.specs.Planning.{places_of_headers}
-use Rattle.event_assembly.specs.Problems.{ArePreparedBy}
-use Rattle.event_assembly.specs.Reads.{IsRowKey}
+use Rattle.event_assembly.specs.Inside.Deciding.{AreDecided}
+use Rattle.event_assembly.specs.Inside.Numbering.{AreNumbered}
+use Rattle.event_assembly.specs.Inside.Planning.{places_of_headers}
+use Rattle.event_assembly.specs.Inside.Problems.{ArePreparedBy}
+use Rattle.event_assembly.specs.Inside.Reads.{IsRowKey}
 use Rattle.event_assembly.proofs.PlanLaws.{AreMarks, keys_of_all, keys_below, marked_is, prepared_is, valid_is, rows_have_headers, lacks_by, prepared_one_each}
-use Rattle.event_assembly.specs.Numbering.{marked_keys}
+use Rattle.event_assembly.specs.Inside.Numbering.{marked_keys}
 use Rattle.event_assembly.proofs.planning.Plan.new.Goals as goal
 
 pub decide-requires-clause-keys : goal.decide-requires-clause-keys

@@ -10,7 +10,7 @@ use Rattle.phase_reader.specs.PickWords.{pick_words}
 use Rattle.phase_reader.specs.PickFields.{pick_of, pick_of_words}
 use Rattle.phase_reader.specs.PickFaults.{words_fault}
 use Rattle.phase_reader.specs.PhaseEvents.{event_lines, open_lines, passes_limit}
-use Rattle.phase_reader.specs.Drafts.{field_words}
+use Rattle.phase_reader.specs.Inside.Drafts.{field_words}
 use Rattle.phase_reader.proofs.ListLaws.{ok_is, both_ok}
 use Rattle.phase_reader.proofs.DraftSteps.{follows_blank, follows_comment, follows_passed, follows_pick, limit_follows}
 use Rattle.phase_reader.proofs.FaultSteps.{kind_by_words, fault_kind, fault_few, fault_words, fault_limit, fault_none}

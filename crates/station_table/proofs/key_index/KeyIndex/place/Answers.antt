@@ -1,7 +1,7 @@
 use Rattle.std.proofs.Common.{◌≡◌, Bool, true, false, refl, sym, ◌∙◌, ap, map}
 use Rattle.std.specs.List.{list_any, position}
 use Rattle.station_table.specs.Keys.{same_key, key_place}
-use Rattle.station_table.specs.KeyWords.{as_key}
+use Rattle.station_table.specs.Inside.KeyWords.{as_key}
 use Rattle.station_table.specs.declared.key_words.KeyWords.{KeyWords}
 use Rattle.station_table.proofs.KeyLaws.{any_of_map, position_of_map}
 use Rattle.station_table.proofs.key_index.KeyIndex.place.Goals as goal

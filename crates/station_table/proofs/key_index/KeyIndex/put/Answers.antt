@@ -1,7 +1,7 @@
 use Rattle.std.proofs.Common.{refl, ◌∙◌, ap, map}
 use Rattle.indexmap.specs.IndexSet.{insert_key}
 use Rattle.station_table.specs.Keys.{same_key}
-use Rattle.station_table.specs.KeyWords.{as_key}
+use Rattle.station_table.specs.Inside.KeyWords.{as_key}
 use Rattle.station_table.proofs.KeyLaws.{put_map}
 use Rattle.station_table.proofs.key_index.KeyIndex.put.Goals as goal
 

@@ -1,7 +1,7 @@
 use Rattle.std.proofs.Common.{◌≡◌, ◌<◌, ◌∷◌, [], ◌++◌, length, get_or, sym, ◌∙◌, ap, arith}
 use Rattle.std.proofs.lemmas.List.{take_more, get_or-map, length-map}
 use Rattle.station_table.specs.declared.keys.GridKey.{GridKey}
-use Rattle.station_table.specs.KeyWords.{as_key}
+use Rattle.station_table.specs.Inside.KeyWords.{as_key}
 use Rattle.station_table.proofs.key_index.KeyIndex.to_keys.Goals as goal
 
 pub loop-words-preserved : goal.loop-words-preserved

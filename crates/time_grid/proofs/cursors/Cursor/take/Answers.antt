@@ -1,7 +1,7 @@
 use Rattle.std.proofs.Common.{arith, ◌≡◌, ◌∙◌, ◌<◌, sym}
 use Rattle.std.proofs.lemmas.List.{get_or-set_other}
 use Rattle.node_boxes.specs.Grid.{node_count}
-use Rattle.time_grid.specs.Selections.{selected_node, selection_size}
+use Rattle.time_grid.specs.Inside.Selections.{selected_node, selection_size}
 use Rattle.time_grid.proofs.SelectionLaws.{cursor_inside, cursor_node}
 use Rattle.time_grid.proofs.TakeLaws.{taken_more}
 use Rattle.time_grid.proofs.cursors.Cursor.take.Goals as goal

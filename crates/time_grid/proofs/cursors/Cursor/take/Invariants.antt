@@ -1,6 +1,6 @@
 use Rattle.std.proofs.Common.{◌≡◌, ℕ, ◌-◌, ◌<◌, ◌≤◌, length, slice_index}
-use Rattle.time_grid.specs.Cursors.{IsAhead, IsCursor, IsTaken}
-use Rattle.time_grid.specs.Selections.{selected_node}
+use Rattle.time_grid.specs.Inside.Cursors.{IsAhead, IsCursor, IsTaken}
+use Rattle.time_grid.specs.Inside.Selections.{selected_node}
 use Rattle.time_grid.proofs.cursors.Cursor.take.Given as goal
 
 abbrev pub invariant-loop-self : goal.invariant-loop-self

@@ -1,6 +1,6 @@
 use Rattle.std.proofs.Common.{◌∙◌, ap, subst, sym}
 use Rattle.node_boxes.specs.Grid.{node_count}
-use Rattle.time_grid.specs.Selections.{IsSelection}
+use Rattle.time_grid.specs.Inside.Selections.{IsSelection}
 use Rattle.time_grid.proofs.AnswerLaws.{selected_search_times, selected_within}
 use Rattle.time_grid.proofs.grids.TimeGrid.on_search_grid.Goals as goal
 

@@ -4,7 +4,7 @@ use Rattle.node_boxes.specs.Grid.{node_count}
 use Rattle.time_grid.specs.Alignment.{time_grid_size}
 use Rattle.time_grid.specs.GridFaults.{ReadsBody}
 use Rattle.time_grid.specs.Numbers.{body_times}
-use Rattle.time_grid.specs.Selections.{AreTaken}
+use Rattle.time_grid.specs.Inside.Selections.{AreTaken}
 use Rattle.time_grid.specs.TimeGrids.{HeldTimes}
 use Rattle.time_grid.proofs.AnswerLaws.{same_refusal, same_good, are_body_times, grid_is_kept, whole_items}
 use Rattle.time_grid.proofs.grids.TimeGrid.read.Goals as goal

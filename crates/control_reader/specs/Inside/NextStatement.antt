@@ -6,7 +6,7 @@ use Rattle.control_reader.specs.declared.statement.LineKind.{LineKind}
 use Rattle.control_reader.specs.declared.statement.LineKind.TheVariants.{Blank, Comment, Passed, Of}
 use Rattle.control_reader.specs.ControlLines.{ControlLine, kind_of, arguments_of}
 use Rattle.control_reader.specs.Values.{files_of, frame_of, method_of, sigma_of, cells_of, phase_ids_of, exclude_of, delay_of, alias_of, seed_of, count_of}
-use Rattle.control_reader.specs.Said.{Said}
+use Rattle.control_reader.specs.Inside.Said.{Said}
 
 -- what is said with one more statement, given the words behind its keyword
 abbrev pub with_statement : Statement → List (List ℕ) → Said → Said

@@ -10,7 +10,7 @@ use Rattle.control_reader.specs.ControlLines.{ControlLine, is_include, arguments
 use Rattle.control_reader.specs.Values.{include_of}
 use Rattle.control_reader.specs.WordFaults.{first_cause, unless, words_fault}
 use Rattle.control_reader.specs.Includes.{name_fault_at}
-use Rattle.control_reader.specs.NextFault.{includes_file}
+use Rattle.control_reader.specs.Inside.NextFault.{includes_file}
 
 -- a line of this kind includes a file
 abbrev pub kind_includes : LineKind → Bool

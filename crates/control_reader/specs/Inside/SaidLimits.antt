@@ -7,7 +7,7 @@ use Rattle.node_boxes.specs.Grid.{IsGrid}
 use Rattle.control_reader.specs.declared.values.Files.{Files}
 use Rattle.control_reader.specs.declared.values.Method.{Method}
 use Rattle.control_reader.specs.Limits.{IsPhaseId, IsExclude, IsDelay, IsAlias, IsCellCount}
-use Rattle.control_reader.specs.Said.{Said}
+use Rattle.control_reader.specs.Inside.Said.{Said}
 
 -- what LOCFILES says is within its limits
 abbrev pub IsFiles : Files → Type 0

@@ -5,7 +5,7 @@ use Rattle.node_boxes.specs.GridOrder.{node_number}
 use Rattle.time_grid.specs.declared.cursors.Cursor.{Cursor}
 use Rattle.time_grid.specs.declared.numbers.ByteOrder.{ByteOrder}
 use Rattle.time_grid.specs.Numbers.{number_at}
-use Rattle.time_grid.specs.Selections.{IsSelection, selection_size}
+use Rattle.time_grid.specs.Inside.Selections.{IsSelection, selection_size}
 
 -- the cursor is at a place of its selection or behind the last one, and its numbers are those of the place
 pub record IsCursor (nodes : ℕ) (c : Cursor) : Type 0 where

@@ -9,7 +9,7 @@ use Rattle.control_reader.specs.declared.fault.Keyword.{Keyword}
 use Rattle.control_reader.specs.declared.fault.Keyword.TheVariants.{Locfiles, Locgrid, Locmeth, Locgau}
 use Rattle.control_reader.specs.WordFaults.{first_cause, unless}
 use Rattle.control_reader.specs.ControlFile.{files_in, method_in}
-use Rattle.control_reader.specs.Said.{Said}
+use Rattle.control_reader.specs.Inside.Said.{Said}
 
 -- the statement with this keyword wasn't said
 abbrev pub missing_by : {V : Type 0} → Keyword → Option V → Option ControlCause

@@ -4,7 +4,7 @@ use Rattle.text_terms.specs.Faults.{NoFaultBelow}
 use Rattle.control_reader.specs.declared.draft.Draft.{Draft}
 use Rattle.control_reader.specs.ControlLines.{ControlLine}
 use Rattle.control_reader.specs.ControlFile.{fault_at}
-use Rattle.control_reader.specs.Said.{said_of, said_in}
+use Rattle.control_reader.specs.Inside.Said.{said_of, said_in}
 
 -- the draft holds what the lines before say, and none of them has a fault
 pub record Follows (before : List ControlLine) (draft : Draft) : Type 0 where

@@ -10,7 +10,7 @@ use Rattle.control_reader.specs.declared.statement.LineKind.{LineKind}
 use Rattle.control_reader.specs.declared.statement.LineKind.TheVariants.{Blank, Comment, Passed, Of}
 use Rattle.control_reader.specs.ControlLines.{ControlLine, kind_of, arguments_of}
 use Rattle.control_reader.specs.WordFaults.{first_cause, unless, words_fault}
-use Rattle.control_reader.specs.Said.{Said}
+use Rattle.control_reader.specs.Inside.Said.{Said}
 
 -- a statement with the same keyword was said, of those that may stand once
 abbrev pub was_said : Statement → Said → Bool

@@ -7,7 +7,7 @@ use Rattle.grid_header.specs.declared.words.HeaderWords.{HeaderWords}
 use Rattle.grid_header.specs.declared.numbers.Triple.{Triple}
 use Rattle.grid_header.specs.declared.numbers.Numbers.{Numbers}
 use Rattle.grid_header.specs.Numbers.{are_counts, is_spacing, is_coordinate}
-use Rattle.grid_header.specs.Parts.{three_words}
+use Rattle.grid_header.specs.Inside.Parts.{three_words}
 
 -- the numbers of the three axes
 abbrev pub three_numbers : Triple → List (Option ℤ)

@@ -11,7 +11,7 @@ use Rattle.station_table.specs.declared.keys.Place.TheVariants.{Absent, At}
 use Rattle.event_assembly.specs.declared.planning.Plan.{Plan}
 use Rattle.event_assembly.specs.Answers.{lacks_a_grid}
 use Rattle.event_assembly.specs.Assembling.{ArePrepared, AreValid}
-use Rattle.event_assembly.specs.Reads.{IsRowKey}
+use Rattle.event_assembly.specs.Inside.Reads.{IsRowKey}
 use Rattle.event_assembly.specs.Rows.{row_keys}
 
 -- the place of the source of a header; there is none where there is no header

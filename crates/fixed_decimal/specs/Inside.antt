@@ -1,0 +1,2 @@
+-- Words for the crate's own parts, on which no public clause rests.
+pub mod State
