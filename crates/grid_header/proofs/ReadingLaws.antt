@@ -8,7 +8,7 @@ use Rattle.grid_header.specs.declared.words.HeaderWords.{HeaderWords}
 use Rattle.grid_header.specs.declared.numbers.Numbers.{Numbers}
 use Rattle.grid_header.specs.Inside.Parts.{AreHeaderWords, three_words}
 use Rattle.grid_header.specs.Inside.Fields.{AreNumbersOf, IsHeaderOf}
-use Rattle.grid_header.specs.Reading.{IsReading}
+use Rattle.grid_header.specs.Reading.{AreFields}
 
 -- what holds of a value holds of it as a success
 pub ok_or-then : {T E : Type 0} (o : Option T) (e : E) (P : T → Type 0) → IfSome o P → IfOk (ok_or o e) P
@@ -34,10 +34,10 @@ three_read read a b c w x y z e r =
     let three : c ≡ w.z.now = cc in
     (rw one cc, rw two cc, rw three cc)
 
--- the numbers of the words, as fields, are the reading
-pub reading_is : (bytes : List ℕ) (w : HeaderWords) (n : Numbers) (h : Header) → AreHeaderWords bytes w → AreNumbersOf w n → IsHeaderOf n h
-    → IsReading bytes h
-reading_is bytes w n h words numbers fields =
+-- the numbers of the words, as fields, are the fields of the header
+pub fields_are : (bytes : List ℕ) (w : HeaderWords) (n : Numbers) (h : Header) → AreHeaderWords bytes w → AreNumbersOf w n → IsHeaderOf n h
+    → AreFields bytes h
+fields_are bytes w n h words numbers fields =
     let c = three_read whole_of _ _ _ w.counts (pos h.x) (pos h.y) (pos h.z) words.counts (rw fields.counts numbers.counts) in
     let o = three_read millionths_of _ _ _ w.origin h.ox h.oy h.oz words.origin (rw fields.origin numbers.origin) in
     let d = three_read millionths_of _ _ _ w.spacing h.dx h.dy h.dz words.spacing (rw fields.spacing numbers.spacing) in

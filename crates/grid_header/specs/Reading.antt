@@ -1,11 +1,12 @@
 -- The reading of a header, and the limits that it is within.
-use Rattle.std.specs.Prelude.{◌≡◌, ℕ, ◌*◌, ◌≤◌, ◌^◌, List, Some, ℤ, pos, ◌≤ℤ◌, unsigned_abs}
+use Rattle.std.specs.Prelude.{◌≡◌, ℕ, ◌*◌, ◌≤◌, ◌^◌, List, Some, None, ℤ, pos, ◌≤ℤ◌, unsigned_abs}
 use Rattle.fixed_decimal.specs.Value.{millionths_of, whole_of}
 use Rattle.grid_header.specs.declared.header.Header.{Header}
+use Rattle.grid_header.specs.Causes.{cause_of}
 use Rattle.grid_header.specs.Layout.{grid_words, source_words, word_at}
 
 -- each field is the reading of its word
-pub record IsReading (bytes : List ℕ) (h : Header) : Type 0 where
+pub record AreFields (bytes : List ℕ) (h : Header) : Type 0 where
   pub x : whole_of (word_at 0 (grid_words bytes)) ≡ Some (pos h.x)
   pub y : whole_of (word_at 1 (grid_words bytes)) ≡ Some (pos h.y)
   pub z : whole_of (word_at 2 (grid_words bytes)) ≡ Some (pos h.z)
@@ -18,6 +19,11 @@ pub record IsReading (bytes : List ℕ) (h : Header) : Type 0 where
   pub sx : millionths_of (word_at 1 (source_words bytes)) ≡ Some h.sx
   pub sy : millionths_of (word_at 2 (source_words bytes)) ≡ Some h.sy
   pub sz : millionths_of (word_at 3 (source_words bytes)) ≡ Some h.sz
+
+-- no cause holds of the header, and each field is the reading of its word
+pub record IsReading (bytes : List ℕ) (h : Header) : Type 0 where
+  pub good : cause_of bytes ≡ None
+  pub fields : AreFields bytes h
 
 -- 1 to 4096 nodes on an axis
 abbrev pub IsCount : ℕ → Type 0

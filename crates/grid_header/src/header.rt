@@ -1,7 +1,7 @@
 //! A header and its reading.
-ghost use Rattle.std.specs.Prelude.{◌≡◌, ◌≢◌, ◌≤◌, ℕ, List, Some, None, length, IfOk, IfErr};
+ghost use Rattle.std.specs.Prelude.{◌≡◌, ◌≤◌, Some, None, length, IfOk, IfErr};
 ghost use Rattle.grid_header.specs.Causes.{cause_of};
-ghost use Rattle.grid_header.specs.Reading.{IsReading, IsValidHeader};
+ghost use Rattle.grid_header.specs.Reading.{AreFields, IsReading, IsValidHeader};
 
 use crate::numbers::Numbers;
 use crate::words::header_words;
@@ -54,12 +54,22 @@ pub enum HeaderError {
 ///
 /// An answer has 1 to 4096 nodes on each axis and at most 16,000,000 in all, spacings of 1 to 10^9 mm, and coordinates of at most
 /// 10^10 mm in size. These limits are this project's own.
-#[tactic(auto, unfolding(crate::specs::Causes::cause_of))]
 pub fn read_header(bytes: &[u8]) -> Result<Header, HeaderError>
     requires { length bytes.now ≤ 65536 }
     ensures value { IfOk result (IsReading bytes.now) }
     ensures limits { IfOk result IsValidHeader }
+    ensures fault { IfErr result (λ cause. cause_of bytes.now ≡ Some cause) }
+{
+    read_fields(bytes)
+}
+
+// The fields of a header without a fault, or its first cause.
+#[tactic(auto, unfolding(crate::specs::Causes::cause_of))]
+fn read_fields(bytes: &[u8]) -> Result<Header, HeaderError>
+    requires { length bytes.now ≤ 65536 }
     ensures good { IfOk result (λ _. cause_of bytes.now ≡ None) }
+    ensures fields { IfOk result (AreFields bytes.now) }
+    ensures limits { IfOk result IsValidHeader }
     ensures fault { IfErr result (λ cause. cause_of bytes.now ≡ Some cause) }
 {
     let words = header_words(bytes).ok_or(HeaderError::Shape)?;
@@ -72,11 +82,3 @@ pub fn read_header(bytes: &[u8]) -> Result<Header, HeaderError>
     let numbers = Numbers::read(&words).ok_or(HeaderError::Number)?;
     numbers.header().ok_or(HeaderError::Limit)
 }
-
-/// A header has one reading at most. It is refused for no number where it has a reading, and for no limit where that reading is within
-/// the limits.
-pub fn one_answer()
-    ensures reading { (bytes : List ℕ) (g h : Header) → IsReading bytes g → IsReading bytes h → g ≡ h }
-    ensures number { (bytes : List ℕ) (h : Header) → IsReading bytes h → cause_of bytes ≢ Some HeaderError.Number }
-    ensures limit { (bytes : List ℕ) (h : Header) → IsReading bytes h → IsValidHeader h → cause_of bytes ≢ Some HeaderError.Limit }
-{}

@@ -7,9 +7,11 @@
 #![tactic(auto)]
 
 mod header;
+mod laws;
 mod numbers;
 #[cfg(test)]
 mod tests;
 mod words;
 
-pub use header::{Header, HeaderError, one_answer, read_header};
+pub use header::{Header, HeaderError, read_header};
+pub use laws::reading_excludes_fault;
