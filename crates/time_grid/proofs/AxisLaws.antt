@@ -9,7 +9,8 @@ use Rattle.std.proofs.lemmas.Bool.{false_from_ne_true}
 use Rattle.std.proofs.lemmas.Bool.Decides.{Decides-int_eq}
 use Rattle.time_grid.specs.declared.axes.AxisPair.{AxisPair}
 use Rattle.time_grid.specs.declared.axes.Places.{Places}
-use Rattle.time_grid.specs.Axes.{coordinate, is_same, axis_place, is_aligned, ArePlaces}
+use Rattle.time_grid.specs.Axes.{coordinate, is_same, axis_place, is_aligned}
+use Rattle.time_grid.specs.Inside.Steps.{ArePlaces}
 use Rattle.time_grid.proofs.PositionLaws.{position_is, position_is_none}
 use Rattle.time_grid.proofs.StepLaws.{same_factor, IsOff}
 

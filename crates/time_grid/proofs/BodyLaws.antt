@@ -11,8 +11,8 @@ use Rattle.time_grid.specs.declared.cursors.Cursor.{Cursor}
 use Rattle.node_boxes.specs.Grid.{node_count}
 use Rattle.node_boxes.specs.GridOrder.{IsInside}
 use Rattle.time_grid.specs.declared.selections.Selection.{Selection}
-use Rattle.time_grid.specs.Bodies.{IsBehind, JudgesBody}
-use Rattle.time_grid.specs.Numbers.{IsFirstOver, IsTime, number_at}
+use Rattle.time_grid.specs.Inside.Judging.{IsAfter, JudgesBody, IsFirstOver}
+use Rattle.time_grid.specs.Numbers.{IsTime, number_at}
 use Rattle.time_grid.specs.Inside.Cursors.{IsAhead, IsCursor, IsTaken}
 use Rattle.time_grid.specs.GridFaults.{ReadsBody}
 use Rattle.time_grid.specs.Inside.Selections.{AreTaken, selected_node, selection_size}
@@ -77,12 +77,12 @@ pub record Filled (bytes : List ℕ) (passed total : ℕ) (buffer : List ℕ) (l
 -- a read behind the bytes that are held
 pub Filled-read : (order : ByteOrder) (bytes : List ℕ) (s : Selection) (passed held done n : ℕ) (buffer into mid : List ℕ) (over : Option ℕ)
     (before after : Option (List ℕ)) → Came order bytes s passed held done buffer into over before
-    → IfSome before (λ unread. IsBehind unread n held mid after)
+    → IfSome before (λ unread. IsAfter unread n held mid after)
     → ((i : ℕ) → i < held → get_or mid i 0 ≡ get_or buffer i 0)
     → Filled bytes passed (held + n) mid after
 Filled-read order bytes s passed held done n buffer into mid over before after came gives kept =
     let came_bytes = 4 * passed + held in
-    let given : IsBehind (drop came_bytes bytes) n held mid after = rw came.rest at gives in
+    let given : IsAfter (drop came_bytes bytes) n held mid after = rw came.rest at gives in
     let there : n ≤ length bytes - (4 * passed + held) = rw (length-drop came_bytes bytes) at given.there in
     let within = came.within in
     let sum : 4 * passed + held + n ≡ 4 * passed + (held + n) = omega arith in
@@ -144,7 +144,7 @@ Came-next order bytes s passed total done next mid buffer into now over later af
 pub Came-more : (unread before after : Option (List ℕ)) (order : ByteOrder) (s : Selection) (passed held done n next : ℕ)
     (buffer mid kept into now : List ℕ) (over later : Option ℕ)
     → IfSome unread (λ bytes. Came order bytes s passed held done buffer into over before)
-    → IfSome before (λ bytes. IsBehind bytes n held mid after)
+    → IfSome before (λ bytes. IsAfter bytes n held mid after)
     → ((i : ℕ) → i < held → get_or mid i 0 ≡ get_or buffer i 0)
     → (let total = held + n in
     total ≤ length mid
@@ -230,13 +230,13 @@ limit_ends nodes passed done count into over (Err _) limit all long judged = tt
 -- the answer at the file's end
 pub Came-ends : (unread before after : Option (List ℕ)) (order : ByteOrder) (s : Selection) (nodes passed held done n : ℕ) (buffer mid into : List ℕ)
     (over : Option ℕ) (r : Result ⊤ GridFault) → IfSome unread (λ bytes. Came order bytes s passed held done buffer into over before)
-    → IfSome before (λ bytes. IsBehind bytes n held mid after) → n ≡ 0 → held < 4 → 4 * passed + held ≤ 4 * nodes
+    → IfSome before (λ bytes. IsAfter bytes n held mid after) → n ≡ 0 → held < 4 → 4 * passed + held ≤ 4 * nodes
     → (nodes ≤ passed → node_count (selection_size s) ≤ done) → JudgesBody nodes passed over r
     → IfSome unread (λ bytes. ReadsBody order nodes (λ bytes _. AreTaken order s bytes into) (Some bytes) r)
 Came-ends None before after order s nodes passed held done n buffer mid into over r came read none few within all judged = tt
 Came-ends (Some bytes) before after order s nodes passed held done n buffer mid into over r came read none few within all judged =
     let came_bytes = 4 * passed + held in
-    let given : IsBehind (drop came_bytes bytes) n held mid after = rw came.rest at read in
+    let given : IsAfter (drop came_bytes bytes) n held mid after = rw came.rest at read in
     let ends : drop came_bytes bytes ≡ [] = given.ends none in
     let past : length bytes - came_bytes ≡ 0 = sym (length-drop came_bytes bytes) ∙ ap length ends in
     let there = came.within in

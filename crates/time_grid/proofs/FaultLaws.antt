@@ -5,7 +5,8 @@ use Rattle.std.proofs.lemmas.List.FromFn.{length-map-range_with_len, get_or-map-
 use Rattle.time_grid.specs.declared.numbers.ByteOrder.{ByteOrder}
 use Rattle.time_grid.specs.declared.faults.GridFault.TheVariants.{Short, Long, TimeLimit}
 use Rattle.time_grid.specs.Bodies.{body_fault}
-use Rattle.time_grid.specs.Numbers.{IsFirstOver, body_times, is_over, number_at}
+use Rattle.time_grid.specs.Numbers.{body_times, is_over, number_at}
+use Rattle.time_grid.specs.Inside.Judging.{IsFirstOver}
 use Rattle.time_grid.proofs.PositionLaws.{position_is, position_is_none}
 
 pub length-body_times : (order : ByteOrder) (bytes : List ℕ) (n : ℕ) → length (body_times order bytes n) ≡ n

@@ -15,7 +15,7 @@ use Rattle.time_grid.specs.declared.selections.Selection.{Selection}
 use Rattle.time_grid.specs.declared.cursors.Cursor.{Cursor}
 use Rattle.time_grid.specs.declared.faults.Axis.TheVariants.{X, Y, Z}
 use Rattle.time_grid.specs.Alignment.{axis_of, time_grid_size, time_node}
-use Rattle.time_grid.specs.Axes.{ArePlaces}
+use Rattle.time_grid.specs.Inside.Steps.{ArePlaces}
 use Rattle.time_grid.specs.Inside.Selections.{IsSelection, selected_at, selected_node, selection_size}
 use Rattle.time_grid.specs.Inside.Cursors.{IsCursor}
 

@@ -1,17 +1,9 @@
 -- Words on the answer of a body.
 use Rattle.std.specs.Prelude.{◌≡◌, ℕ, Bool, true, false, List, Option, Some, None, IsSomeAnd, Result, Ok, Err}
-use Rattle.edt_outside.specs.declared.faults.OpenFault.{OpenFault}
-use Rattle.edt_outside.specs.declared.faults.OpenFault.TheVariants.{Absent as open_absent, Failed as open_failed, Memory as open_memory}
 use Rattle.time_grid.specs.declared.faults.GridFault.{GridFault}
 use Rattle.time_grid.specs.declared.faults.GridFault.TheVariants.{Absent, Failed, Short, Long, TimeLimit, Memory}
 use Rattle.time_grid.specs.declared.numbers.ByteOrder.{ByteOrder}
 use Rattle.time_grid.specs.Bodies.{body_fault}
-
--- the refusal of a body whose file is not opened
-abbrev pub opening : OpenFault → GridFault
-opening open_absent = Absent
-opening open_failed = Failed
-opening open_memory = Memory
 
 -- the answer is `Failed`
 abbrev pub grid_failed : {T : Type 0} → Result T GridFault → Bool

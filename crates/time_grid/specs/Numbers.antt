@@ -1,5 +1,5 @@
 -- The numbers of a body.
-use Rattle.std.specs.Prelude.{ℕ, ◌+◌, ◌*◌, ◌<◌, ◌≤◌, Bool, nat_lt, List, map, slice_index, Option, Some, None}
+use Rattle.std.specs.Prelude.{ℕ, ◌+◌, ◌*◌, ◌≤◌, Bool, nat_lt, List, map, slice_index}
 use Rattle.node_boxes.specs.GridOrder.{all_nodes}
 use Rattle.time_grid.specs.declared.numbers.ByteOrder.{ByteOrder}
 use Rattle.time_grid.specs.declared.numbers.ByteOrder.TheVariants.{Little, Big}
@@ -25,8 +25,3 @@ IsTime time = time ≤ 2000000000
 -- a time is past that limit
 abbrev pub is_over : ℕ → Bool
 is_over time = nat_lt 2000000000 time
-
--- the first of n times that is past the limit, or none
-abbrev pub IsFirstOver : (ℕ → ℕ) → ℕ → Option ℕ → Type 0
-IsFirstOver times n None = (k : ℕ) → k < n → times k ≤ 2000000000
-IsFirstOver times n (Some first) = (first < n) × (2000000000 < times first) × ((k : ℕ) → k < first → times k ≤ 2000000000)

@@ -1,20 +1,10 @@
 -- Words on the answer of a stream.
 use Rattle.std.specs.Prelude.{◌≡◌, ⊤, ℕ, Bool, true, false, List, Option, Some, None, IsSomeAnd, Result, Ok, Err}
-use Rattle.time_grid.specs.declared.faults.GridFault.{GridFault}
-use Rattle.time_grid.specs.declared.faults.GridFault.TheVariants.{Absent as body_absent, Failed as body_failed, Short as body_short, Long as body_long, TimeLimit as body_limit, Memory as body_memory}
+use Rattle.time_grid.specs.declared.faults.GridFault.TheVariants.{Short as body_short, Long as body_long, TimeLimit as body_limit}
 use Rattle.time_grid.specs.declared.faults.StreamFault.{StreamFault}
 use Rattle.time_grid.specs.declared.faults.StreamFault.TheVariants.{Absent, Failed, Short, Long, TimeLimit, NotAligned, Memory}
 use Rattle.time_grid.specs.declared.numbers.ByteOrder.{ByteOrder}
 use Rattle.time_grid.specs.Bodies.{body_fault}
-
--- the refusal of a stream for a fault of its body
-abbrev pub streamed : GridFault → StreamFault
-streamed body_absent = Absent
-streamed body_failed = Failed
-streamed body_short = Short
-streamed body_long = Long
-streamed (body_limit node) = TimeLimit node
-streamed body_memory = Memory
 
 -- the answer is `Failed`
 abbrev pub stream_failed : Result ⊤ StreamFault → Bool

@@ -3,7 +3,8 @@ ghost use Rattle.std.specs.Prelude.{◌≡◌, ◌≢◌, ◌+◌, ◌*◌, ◌<
 ghost use Rattle.grid_header.specs.Reading.{IsValidHeader};
 ghost use Rattle.node_boxes.specs.Frame.{IsValidFrame};
 ghost use Rattle.time_grid.specs.Alignment.{axis_of};
-ghost use Rattle.time_grid.specs.Axes.{IsAxisPair, ArePlaces, AreSteps, is_aligned};
+ghost use Rattle.time_grid.specs.Axes.{is_aligned};
+ghost use Rattle.time_grid.specs.Inside.Steps.{IsAxisPair, ArePlaces, AreSteps};
 
 use crate::faults::Axis;
 use grid_header::Header;

@@ -2,9 +2,9 @@
 ghost use Rattle.std.specs.Prelude.{◌≡◌, [], ℕ, ◌+◌, ◌-◌, ◌*◌, ◌/◌, ◌^◌, ◌<◌, ◌≤◌, All, length, None, Some, IfSome, OnSome, IfOk, OnOk, is_err, slice_index};
 ghost use Rattle.edt_outside.specs.Counts.{RisesExactly};
 ghost use Rattle.node_boxes.specs.Grid.{node_count};
-ghost use Rattle.time_grid.specs.Bodies.{IsBehind, JudgesBody};
+ghost use Rattle.time_grid.specs.Inside.Judging.{IsAfter, JudgesBody, IsFirstOver};
 ghost use Rattle.time_grid.specs.GridFaults.{ReadsBody, grid_absent, grid_failed};
-ghost use Rattle.time_grid.specs.Numbers.{IsFirstOver, IsTime, number_at};
+ghost use Rattle.time_grid.specs.Numbers.{IsTime, number_at};
 ghost use Rattle.time_grid.specs.Inside.Selections.{AreTaken, IsSelection, selection_size};
 
 use crate::cursors::Cursor;
@@ -36,7 +36,7 @@ pub(crate) fn read_body<S: Shelf>(
     ensures misses { RisesExactly (grid_absent result) (S.misses shelf.old) (S.misses shelf.new) }
     ensures lacks { S.lacks shelf.new ≡ S.lacks shelf.old }
     ensures calls_stay { S.calls shelf.old ≤ S.calls shelf.new }
-    ensures calls { S.calls shelf.new ≤ S.calls shelf.old + 4 * nodes + 3 }
+    ensures calls { S.calls shelf.new ≤ S.calls shelf.old + 4 * nodes + 2 }
 {
     shelf.open_file(name)?;
     read_open(shelf, order, nodes, selection, buffer, into)
@@ -64,7 +64,7 @@ fn read_open<S: Shelf>(
     ensures misses { RisesExactly (grid_absent result) (S.misses shelf.old) (S.misses shelf.new) }
     ensures lacks { S.lacks shelf.new ≡ S.lacks shelf.old }
     ensures calls_stay { S.calls shelf.old ≤ S.calls shelf.new }
-    ensures calls { S.calls shelf.new ≤ S.calls shelf.old + 4 * nodes + 2 }
+    ensures calls { S.calls shelf.new ≤ S.calls shelf.old + 4 * nodes + 1 }
 {
     let mut cursor = Cursor::new(selection);
     let mut passed = 0;
@@ -95,7 +95,7 @@ fn fill<S: Shelf>(shelf: &mut S, buffer: &mut [u8], held: usize) -> Result<usize
     ensures same_files { S.files shelf.new ≡ S.files shelf.old }
     ensures bound { IfOk result (λ n. held + n ≤ length buffer.old) }
     ensures kept { (i : ℕ) → i < held → slice_index buffer.new i ≡ slice_index buffer.old i }
-    ensures told { IfOk result (λ n. IfSome (S.left shelf.old) (λ unread. IsBehind unread n held buffer.new (S.left shelf.new))) }
+    ensures told { IfOk result (λ n. IfSome (S.left shelf.old) (λ unread. IsAfter unread n held buffer.new (S.left shelf.new))) }
     ensures faults { RisesExactly (is_err result) (S.faults shelf.old) (S.faults shelf.new) }
     ensures misses { S.misses shelf.new ≡ S.misses shelf.old }
     ensures lacks { S.lacks shelf.new ≡ S.lacks shelf.old }

@@ -2,8 +2,8 @@
 ghost use Rattle.std.specs.Prelude.{◌≡◌};
 ghost use Rattle.time_grid.specs.declared.faults.AlignFault.TheVariants.{Memory as align_memory};
 ghost use Rattle.time_grid.specs.declared.faults.GridFault.TheVariants.{Memory as grid_memory};
-ghost use Rattle.time_grid.specs.GridFaults.{opening};
-ghost use Rattle.time_grid.specs.StreamFaults.{streamed};
+ghost use Rattle.time_grid.specs.Inside.Judging.{opening};
+ghost use Rattle.time_grid.specs.Inside.Streams.{streamed};
 
 use edt_outside::OpenFault;
 use std::alloc::AllocError;

@@ -46,7 +46,7 @@ impl TimeGrid {
     ///
     /// Refuses with `Absent` where there is no such file and with `Failed` where a call of the shelf failed, as they are met; with
     /// `Short` where the file ends before 4 bytes per node, and `Long` where a byte follows them; then with `TimeLimit` and the first
-    /// node whose time passes 2,000,000,000 microseconds; and with `Memory` where memory ran out. At most `4 * nodes + 3` calls of the
+    /// node whose time passes 2,000,000,000 microseconds; and with `Memory` where memory ran out. At most `4 * nodes + 2` calls of the
     /// shelf are made, also where the body has no end.
     pub fn read<S: Shelf>(
         alloc: Global,
@@ -66,7 +66,7 @@ impl TimeGrid {
         ensures misses { RisesExactly (grid_absent result) (S.misses shelf.old) (S.misses shelf.new) }
         ensures lacks { S.lacks shelf.new ≡ S.lacks shelf.old }
         ensures calls_stay { S.calls shelf.old ≤ S.calls shelf.new }
-        ensures calls { S.calls shelf.new ≤ S.calls shelf.old + 4 * node_count (time_grid_size header.now) + 3 }
+        ensures calls { S.calls shelf.new ≤ S.calls shelf.old + 4 * node_count (time_grid_size header.now) + 2 }
     {
         let nodes = node_total(header);
         let mut times = vec![in alloc; 0; nodes]?;

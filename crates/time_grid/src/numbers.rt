@@ -1,6 +1,7 @@
 //! The numbers of a body.
 ghost use Rattle.std.specs.Prelude.{◌≡◌, ◌+◌, ◌*◌, ◌/◌, ◌≤◌, length, slice_index};
-ghost use Rattle.time_grid.specs.Numbers.{number_at, number_of_four, IsFirstOver};
+ghost use Rattle.time_grid.specs.Numbers.{number_at, number_of_four};
+ghost use Rattle.time_grid.specs.Inside.Judging.{IsFirstOver};
 
 use byteorder::{BigEndian, ByteOrder as Endian, LittleEndian};
 

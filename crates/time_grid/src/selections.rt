@@ -4,7 +4,8 @@ ghost use Rattle.grid_header.specs.Reading.{IsValidHeader};
 ghost use Rattle.node_boxes.specs.Frame.{IsValidFrame};
 ghost use Rattle.node_boxes.specs.Grid.{IsGrid, node_count};
 ghost use Rattle.time_grid.specs.Alignment.{axis_of, first_unaligned_axis, time_grid_size, time_node};
-ghost use Rattle.time_grid.specs.Axes.{ArePlaces, is_aligned};
+ghost use Rattle.time_grid.specs.Axes.{is_aligned};
+ghost use Rattle.time_grid.specs.Inside.Steps.{ArePlaces};
 ghost use Rattle.time_grid.specs.Inside.Selections.{IsSelection, selected_node, selection_size};
 ghost use Rattle.time_grid.specs.declared.faults.Axis.TheVariants.{X, Y, Z};
 

@@ -25,7 +25,7 @@ use node_boxes::Frame;
 /// where the file ends before 4 bytes per node of the time grid, and `Long` where a byte follows them; then with `TimeLimit` and the
 /// first node of the time grid whose time passes 2,000,000,000 microseconds; then with `NotAligned` and the first axis, in the order X,
 /// Y, Z, on which some search node has the coordinate of no node of the time grid; and with `Memory` where the shelf had no memory to
-/// open the file. At most `4 * nodes + 3` calls of the shelf are made, also where the body has no end.
+/// open the file. At most `4 * nodes + 2` calls of the shelf are made, also where the body has no end.
 pub fn stream_times<S: Shelf>(
     shelf: &mut S,
     name: &str,
@@ -51,7 +51,7 @@ pub fn stream_times<S: Shelf>(
     ensures misses { RisesExactly (stream_absent result) (S.misses shelf.old) (S.misses shelf.new) }
     ensures lacks { S.lacks shelf.new ≡ S.lacks shelf.old }
     ensures calls_stay { S.calls shelf.old ≤ S.calls shelf.new }
-    ensures calls { S.calls shelf.new ≤ S.calls shelf.old + 4 * node_count (time_grid_size header.now) + 3 }
+    ensures calls { S.calls shelf.new ≤ S.calls shelf.old + 4 * node_count (time_grid_size header.now) + 2 }
 {
     let nodes = node_total(header);
     match Selection::of_search_nodes(header, frame) {
