@@ -1,0 +1,3 @@
+pub mod Weights
+pub mod OriginTime
+pub mod RootMeanSquare
