@@ -50,7 +50,7 @@ parts_within nodes n some few =
     all-map (λ k. k < n) (IsWithin nodes) (part nodes n) (λ k below. part_within nodes n k some few below)
       (range_with_len 0 n) (all-range (λ k. k < n) 0 n (λ k from to. omega arith))
 
-all_boxes : (P Q R : ℕ × ℕ → Type 0) (W : NodeBox → Type 0)
+pub all_boxes : (P Q R : ℕ × ℕ → Type 0) (W : NodeBox → Type 0)
     → ((x y z : ℕ × ℕ) → P x → Q y → R z → W (box_of x y z)) → (xs ys zs : List (ℕ × ℕ))
     → AllByRecursion P xs → AllByRecursion Q ys → AllByRecursion R zs → AllByRecursion W (boxes_of xs ys zs)
 all_boxes P Q R W each xs ys zs all_x all_y all_z =

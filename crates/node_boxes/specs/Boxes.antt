@@ -40,3 +40,13 @@ node_count_of a = (a.x1 - a.x0) * ((a.y1 - a.y0) * (a.z1 - a.z0))
 pub record IsSplittable (a : NodeBox) : Type 0 where
   pub nonempty : IsNonempty a
   pub several : is_single a ≡ false
+
+-- the part has a node on each axis and lies in the whole
+pub record IsPartOf (whole part : NodeBox) : Type 0 where
+  pub nonempty : IsNonempty part
+  pub x_from : whole.x0 ≤ part.x0
+  pub x_to : part.x1 ≤ whole.x1
+  pub y_from : whole.y0 ≤ part.y0
+  pub y_to : part.y1 ≤ whole.y1
+  pub z_from : whole.z0 ≤ part.z0
+  pub z_to : part.z1 ≤ whole.z1

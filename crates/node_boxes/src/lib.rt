@@ -9,6 +9,7 @@ mod box_nodes;
 mod children;
 mod frame;
 mod grid;
+mod laws;
 mod node_box;
 mod octree_roots;
 
@@ -16,5 +17,6 @@ pub use box_nodes::BoxNodes;
 pub use children::Children;
 pub use frame::Frame;
 pub use grid::{Grid, grid_order_law};
+pub use laws::{children_law, octree_law, roots_law};
 pub use node_box::{BoxBound, NodeBox};
 pub use octree_roots::roots;
