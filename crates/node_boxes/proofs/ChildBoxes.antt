@@ -26,14 +26,15 @@ choice_within : (low middle high : ℕ) (b : Bool) → low < high
 choice_within low middle high true some between =
     (record { from = omega arith; some = some; to = omega arith }, tt)
 choice_within low middle high false some between =
-    let two = between refl in
-    (record { from = omega arith; some = two.0; to = omega (arith, two.1) },
-     (record { from = omega (arith, two.0); some = two.1; to = omega arith }, tt))
+    let two = between refl in (
+      record { from = omega arith; some = two.0; to = omega (arith, two.1) },
+      (record { from = omega (arith, two.0); some = two.1; to = omega arith }, tt),
+    )
 
 halves_within : (low high : ℕ) → low < high → AllByRecursion (IsInRange low high) (halves low high)
 halves_within low high some =
     choice_within low (low + (high - low + 1) / 2) high (nat_le (high - low) 1) some
-      (λ long. let more : 1 < high - low = leb-false (high - low) 1 long in (omega arith, omega arith))
+    (λ long. let more : 1 < high - low = leb-false (high - low) 1 long in (omega arith, omega arith))
 
 choice_length : (low middle high : ℕ) (b : Bool)
     → length {A = ℕ × ℕ} (cond b ((low, high) ∷ []) ((low, middle) ∷ (middle, high) ∷ [])) ≡ cond b 1 2
@@ -59,14 +60,17 @@ pub children_parts : (a : NodeBox) → IsNonempty a → AllByRecursion (IsPartOf
 unfolding children_of
 children_parts a some =
     all_boxes (IsInRange a.x0 a.x1) (IsInRange a.y0 a.y1) (IsInRange a.z0 a.z1) (IsPartOf a)
-      (λ x y z in_x in_y in_z. record {
-        nonempty = record { x = in_x.some; y = in_y.some; z = in_z.some };
-        x_from = in_x.from; x_to = in_x.to;
-        y_from = in_y.from; y_to = in_y.to;
-        z_from = in_z.from; z_to = in_z.to;
-      })
-      (halves a.x0 a.x1) (halves a.y0 a.y1) (halves a.z0 a.z1)
-      (halves_within a.x0 a.x1 some.x) (halves_within a.y0 a.y1 some.y) (halves_within a.z0 a.z1 some.z)
+    (λ x y z in_x in_y in_z. record {
+      nonempty = record { x = in_x.some; y = in_y.some; z = in_z.some };
+      x_from = in_x.from;
+      x_to = in_x.to;
+      y_from = in_y.from;
+      y_to = in_y.to;
+      z_from = in_z.from;
+      z_to = in_z.to;
+    })
+    (halves a.x0 a.x1) (halves a.y0 a.y1) (halves a.z0 a.z1)
+    (halves_within a.x0 a.x1 some.x) (halves_within a.y0 a.y1 some.y) (halves_within a.z0 a.z1 some.z)
 
 pub children_once : (a : NodeBox) (ix iy iz : ℕ) → IsNonempty a
     → holders ix iy iz (children_of a) ≡ cond (contains a ix iy iz) 1 0
@@ -76,9 +80,9 @@ children_once a ix iy iz some =
     let y = sum_halves (at iy) (at-adds iy) a.y0 a.y1 (omega (arith, some.y)) in
     let z = sum_halves (at iz) (at-adds iz) a.z0 a.z1 (omega (arith, some.z)) in
     sum_by-same (λ c. cond (contains c ix iy iz) 1 0) (weigh (at ix) (at iy) (at iz))
-      (contains-at ix iy iz) (boxes_of (halves a.x0 a.x1) (halves a.y0 a.y1) (halves a.z0 a.z1))
-      ∙ sum_boxes (at ix) (at iy) (at iz) (halves a.x0 a.x1) (halves a.y0 a.y1) (halves a.z0 a.z1)
-      ∙ rw (x, y, z) (sym (contains-at ix iy iz a))
+    (contains-at ix iy iz) (boxes_of (halves a.x0 a.x1) (halves a.y0 a.y1) (halves a.z0 a.z1))
+    ∙ sum_boxes (at ix) (at iy) (at iz) (halves a.x0 a.x1) (halves a.y0 a.y1) (halves a.z0 a.z1)
+    ∙ rw (x, y, z) (sym (contains-at ix iy iz a))
 
 pub children_nodes : (a : NodeBox) → IsNonempty a → sum_by node_count_of (children_of a) ≡ node_count_of a
 unfolding children_of
@@ -87,19 +91,19 @@ children_nodes a some =
     let y = sum_halves places places-adds a.y0 a.y1 (omega (arith, some.y)) in
     let z = sum_halves places places-adds a.z0 a.z1 (omega (arith, some.z)) in
     sum_boxes places places places (halves a.x0 a.x1) (halves a.y0 a.y1) (halves a.z0 a.z1)
-      ∙ rw (x, y, z) refl
+    ∙ rw (x, y, z) refl
 
 product_within : (x y z : ℕ) → 1 ≤ x → x ≤ 2 → 1 ≤ y → y ≤ 2 → 1 ≤ z → z ≤ 2
     → (x ≡ 2) ⊎ ((y ≡ 2) ⊎ (z ≡ 2)) → (2 ≤ x * (y * z)) × (x * (y * z) ≤ 8)
 product_within x y z x_from x_to y_from y_to z_from z_to two =
     let above = mul-le x (y * z) 2 4 x_to (mul-le y z 2 2 y_to z_to) in
     let below : 2 ≤ x * (y * z) = elim two [
-        inl is ↦ mul-le 2 1 x (y * z) (omega arith) (mul-le 1 1 y z y_from z_from)
+      | inl is ↦ mul-le 2 1 x (y * z) (omega arith) (mul-le 1 1 y z y_from z_from)
       | inr rest ↦ elim rest [
-          inl is ↦ mul-le 1 2 x (y * z) x_from (mul-le 2 1 y z (omega arith) z_from)
+        | inl is ↦ mul-le 1 2 x (y * z) x_from (mul-le 2 1 y z (omega arith) z_from)
         | inr is ↦ mul-le 1 2 x (y * z) x_from (mul-le 1 2 y z y_from (omega arith))
-        ]
-      ] in
+      ]
+    ] in
     (omega arith, omega arith)
 
 long_axis : (a : NodeBox) → IsSplittable a
@@ -122,23 +126,23 @@ children_count a split =
     let y = half_counts a.y0 a.y1 in
     let z = half_counts a.z0 a.z1 in
     let two : (length xs ≡ 2) ⊎ ((length ys ≡ 2) ⊎ (length zs ≡ 2)) =
-      elim (long_axis a split) [
-        inl long ↦ inl (x.two long)
+    elim (long_axis a split) [
+      | inl long ↦ inl (x.two long)
       | inr rest ↦ elim rest [ inl long ↦ inr (inl (y.two long)) | inr long ↦ inr (inr (z.two long)) ]
-      ] in
+    ] in
     rw (length-boxes_of xs ys zs)
-      (product_within (length xs) (length ys) (length zs) x.from x.to y.from y.to z.from z.to two)
+    (product_within (length xs) (length ys) (length zs) x.from x.to y.from y.to z.from z.to two)
 
 pub node_count-some : (a : NodeBox) → IsNonempty a → 1 ≤ node_count_of a
 node_count-some a some =
     mul-le 1 1 (a.x1 - a.x0) ((a.y1 - a.y0) * (a.z1 - a.z0)) (omega (arith, some.x))
-      (mul-le 1 1 (a.y1 - a.y0) (a.z1 - a.z0) (omega (arith, some.y)) (omega (arith, some.z)))
+    (mul-le 1 1 (a.y1 - a.y0) (a.z1 - a.z0) (omega (arith, some.y)) (omega (arith, some.z)))
 
 pub children_smaller : (a : NodeBox) → IsSplittable a
     → AllByRecursion (λ c. node_count_of c < node_count_of a) (children_of a)
 children_smaller a split =
     let two = children_count a split in
     each_less node_count_of (children_of a) 0 (node_count_of a)
-      (omega (arith, children_nodes a split.nonempty)) (omega (arith, two.0))
-      (all-weaker (IsPartOf a) (λ c. 1 ≤ node_count_of c) (λ c part. node_count-some c part.nonempty)
-        (children_of a) (children_parts a split.nonempty))
+    (omega (arith, children_nodes a split.nonempty)) (omega (arith, two.0))
+    (all-weaker (IsPartOf a) (λ c. 1 ≤ node_count_of c) (λ c part. node_count-some c part.nonempty)
+    (children_of a) (children_parts a split.nonempty))

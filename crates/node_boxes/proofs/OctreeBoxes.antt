@@ -18,10 +18,13 @@ in_nonempty g a inside = record { x = inside.x; y = inside.y; z = inside.z }
 -- a part of a box in the grid is in the grid
 pub part_inside : (g : GridSize) (a c : NodeBox) → IsIn g a → IsPartOf a c → IsIn g c
 part_inside g a c inside part = record {
-    x = part.nonempty.x; x_end = omega (arith, part.x_to, inside.x_end);
-    y = part.nonempty.y; y_end = omega (arith, part.y_to, inside.y_end);
-    z = part.nonempty.z; z_end = omega (arith, part.z_to, inside.z_end);
-  }
+  x = part.nonempty.x;
+  x_end = omega (arith, part.x_to, inside.x_end);
+  y = part.nonempty.y;
+  y_end = omega (arith, part.y_to, inside.y_end);
+  z = part.nonempty.z;
+  z_end = omega (arith, part.z_to, inside.z_end);
+}
 
 pub child_part : (a c : NodeBox) → IsNonempty a → Contains (children_of a) c → IsPartOf a c
 child_part a c some at = all-contains (IsPartOf a) (children_of a) c (children_parts a some) at
@@ -44,12 +47,12 @@ pub cover_sum : (f : NodeBox → ℕ) → ((a : NodeBox) → IsNonempty a → su
 cover_sum f adds boxes leaves Done some = refl
 cover_sum f adds boxes leaves (Keep a rest others cover) (here, some) =
     sum_by-cons f a others ∙ ap (λ n. f a + n) (cover_sum f adds rest others cover some)
-      ∙ sym (sum_by-cons f a rest)
+    ∙ sym (sum_by-cons f a rest)
 cover_sum f adds boxes leaves (Open a rest others several cover) (here, some) =
     cover_sum f adds (children_of a ++ rest) others cover
-        (all-append IsNonempty (children_of a) rest (children_nonempty a here) some)
-      ∙ sum_by-append f (children_of a) rest ∙ ap (λ n. n + sum_by f rest) (adds a here)
-      ∙ sym (sum_by-cons f a rest)
+    (all-append IsNonempty (children_of a) rest (children_nonempty a here) some)
+    ∙ sum_by-append f (children_of a) rest ∙ ap (λ n. n + sum_by f rest) (adds a here)
+    ∙ sym (sum_by-cons f a rest)
 
 pub cover_nonempty : (boxes leaves : List NodeBox) → IsOctreeCover boxes leaves
     → AllByRecursion IsNonempty boxes → AllByRecursion IsNonempty leaves
@@ -58,7 +61,7 @@ cover_nonempty boxes leaves (Keep a rest others cover) (here, some) =
     (here, cover_nonempty rest others cover some)
 cover_nonempty boxes leaves (Open a rest others several cover) (here, some) =
     cover_nonempty (children_of a ++ rest) others cover
-      (all-append IsNonempty (children_of a) rest (children_nonempty a here) some)
+    (all-append IsNonempty (children_of a) rest (children_nonempty a here) some)
 
 roots_nonempty : (g : GridSize) (roots : List NodeBox) → AreRoots g roots → AllByRecursion IsNonempty roots
 roots_nonempty g roots are = all-weaker (IsIn g) IsNonempty (in_nonempty g) roots are.inside
@@ -67,16 +70,18 @@ pub cover_once : (g : GridSize) (roots leaves : List NodeBox) (ix iy iz : ℕ) �
     → IsOctreeCover roots leaves → IsInside g ix iy iz → holders ix iy iz leaves ≡ 1
 cover_once g roots leaves ix iy iz are cover inside =
     cover_sum (λ c. cond (contains c ix iy iz) 1 0) (λ a some. children_once a ix iy iz some)
-        roots leaves cover (roots_nonempty g roots are)
-      ∙ are.once ix iy iz inside
+    roots leaves cover (roots_nonempty g roots are)
+    ∙ are.once ix iy iz inside
 
 pub cover_few : (g : GridSize) (roots leaves : List NodeBox) → AreRoots g roots
     → IsOctreeCover roots leaves → length leaves ≤ node_count g
 cover_few g roots leaves are cover =
     let some = roots_nonempty g roots are in
-    omega (arith,
+    omega (
+      arith,
       cover_sum node_count_of children_nodes roots leaves cover some,
       are.nodes,
       length-le-sum_by node_count_of leaves
-        (all-weaker IsNonempty (λ c. 1 ≤ node_count_of c) node_count-some leaves
-          (cover_nonempty roots leaves cover some)))
+          (all-weaker IsNonempty (λ c. 1 ≤ node_count_of c) node_count-some leaves
+          (cover_nonempty roots leaves cover some)),
+    )

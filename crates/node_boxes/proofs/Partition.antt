@@ -21,25 +21,25 @@ sum_row : (f g h : ℕ × ℕ → ℕ) (x y : ℕ × ℕ) (zs : List (ℕ × ℕ
     → sum_by (weigh f g h) (map (box_of x y) zs) ≡ f x * (g y * sum_by h zs)
 sum_row f g h x y zs =
     sum_by-map (weigh f g h) (box_of x y) zs
-      ∙ sum_by-times (f x) (λ z. g y * h z) zs
-      ∙ ap (λ n. f x * n) (sum_by-times (g y) h zs)
+    ∙ sum_by-times (f x) (λ z. g y * h z) zs
+    ∙ ap (λ n. f x * n) (sum_by-times (g y) h zs)
 
 sum_slab : (f g h : ℕ × ℕ → ℕ) (x : ℕ × ℕ) (ys zs : List (ℕ × ℕ))
     → sum_by (weigh f g h) (flat_map (λ y. map (box_of x y) zs) ys) ≡ f x * (sum_by g ys * sum_by h zs)
 sum_slab f g h x ys zs =
     sum_by-flat_map (weigh f g h) (λ y. map (box_of x y) zs) ys
-      ∙ sum_by-same (λ y. sum_by (weigh f g h) (map (box_of x y) zs)) (λ y. f x * (g y * sum_by h zs))
-          (λ y. sum_row f g h x y zs) ys
-      ∙ sum_by-times (f x) (λ y. g y * sum_by h zs) ys
-      ∙ ap (λ n. f x * n) (sum_by-times_right (sum_by h zs) g ys)
+    ∙ sum_by-same (λ y. sum_by (weigh f g h) (map (box_of x y) zs)) (λ y. f x * (g y * sum_by h zs))
+    (λ y. sum_row f g h x y zs) ys
+    ∙ sum_by-times (f x) (λ y. g y * sum_by h zs) ys
+    ∙ ap (λ n. f x * n) (sum_by-times_right (sum_by h zs) g ys)
 
 pub sum_boxes : (f g h : ℕ × ℕ → ℕ) (xs ys zs : List (ℕ × ℕ))
     → sum_by (weigh f g h) (boxes_of xs ys zs) ≡ sum_by f xs * (sum_by g ys * sum_by h zs)
 sum_boxes f g h xs ys zs =
     sum_by-flat_map (weigh f g h) (λ x. flat_map (λ y. map (box_of x y) zs) ys) xs
-      ∙ sum_by-same (λ x. sum_by (weigh f g h) (flat_map (λ y. map (box_of x y) zs) ys))
-          (λ x. f x * (sum_by g ys * sum_by h zs)) (λ x. sum_slab f g h x ys zs) xs
-      ∙ sum_by-times_right (sum_by g ys * sum_by h zs) f xs
+    ∙ sum_by-same (λ x. sum_by (weigh f g h) (flat_map (λ y. map (box_of x y) zs) ys))
+    (λ x. f x * (sum_by g ys * sum_by h zs)) (λ x. sum_slab f g h x ys zs) xs
+    ∙ sum_by-times_right (sum_by g ys * sum_by h zs) f xs
 
 -- the numbers of two ranges that meet add up to that of both together
 abbrev pub AddsUp : (ℕ × ℕ → ℕ) → Type 0
@@ -56,7 +56,7 @@ pub sum_halves : (f : ℕ × ℕ → ℕ) → AddsUp f → (low high : ℕ) → 
 sum_halves f adds low high order =
     let middle = low + (high - low + 1) / 2 in
     sum_choice f low middle high (adds low middle high (omega arith) (omega arith))
-      (nat_le (high - low) 1)
+    (nat_le (high - low) 1)
 
 pub div_up : (a b n : ℕ) → 1 ≤ n → a ≤ b → a / n ≤ b / n
 div_up a b n some order = le-div (a / n) b n (omega arith) (omega (arith, div-mul-le_self a n))
@@ -70,12 +70,12 @@ sum_front f adds nodes n zero some =
 sum_front f adds nodes n (suc k) some =
     let order : k * nodes ≤ (k + 1) * nodes = grind arith in
     let P : ℕ → Type 0 = λ m.
-      sum_by f (map (part nodes n) (range_with_len 0 m)) ≡ f (0, m * nodes / n) in
+    sum_by f (map (part nodes n) (range_with_len 0 m)) ≡ f (0, m * nodes / n) in
     let more : P (k + 1) =
-      sum_by-map-range_with_len_more f (part nodes n) 0 k k (omega arith)
-        ∙ ap (λ m. m + f (part nodes n k)) (sum_front f adds nodes n k some)
-        ∙ adds 0 (k * nodes / n) ((k + 1) * nodes / n) (omega arith)
-            (div_up (k * nodes) ((k + 1) * nodes) n some order) in
+    sum_by-map-range_with_len_more f (part nodes n) 0 k k (omega arith)
+    ∙ ap (λ m. m + f (part nodes n k)) (sum_front f adds nodes n k some)
+    ∙ adds 0 (k * nodes / n) ((k + 1) * nodes / n) (omega arith)
+    (div_up (k * nodes) ((k + 1) * nodes) n some order) in
     subst P (add-one k) more
 
 pub sum_parts : (f : ℕ × ℕ → ℕ) → AddsUp f → (nodes n : ℕ) → 1 ≤ n

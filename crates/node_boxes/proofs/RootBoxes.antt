@@ -22,7 +22,7 @@ pub roots_whole : (g : GridSize) (nx ny nz gx gy gz lx ly lz kx ky kz i : ℕ)
     → kx ≡ count_within nx gx → ky ≡ count_within ny gy → kz ≡ count_within nz gz → i ≡ kx
     → (items : List NodeBox)
     → items ≡ flat_map (λ x. flat_map (λ y. map (box_of x y) (parts lz kz)) (parts ly ky))
-        (map (part lx kx) (range_with_len 0 i))
+    (map (part lx kx) (range_with_len 0 i))
     → items ≡ roots_of g nx ny nz
 unfolding roots_of
 roots_whole g nx ny nz gx gy gz lx ly lz kx ky kz i x y z nx' ny' nz' cx cy cz end items is =
@@ -40,35 +40,43 @@ part_within nodes n k some few below =
     let last : (k + 1) * nodes ≤ n * nodes = mul-le (k + 1) nodes n nodes (omega arith) (omega arith) in
     let whole : n * nodes / n ≡ nodes = mul-div_cancel_left nodes (omega arith) in
     record {
-      some = omega (arith, le-div (k * nodes / n + 1) ((k + 1) * nodes) n (omega arith)
-        (omega (arith, div-mul-le_self (k * nodes) n)));
+      some = omega (
+        arith,
+        le-div (k * nodes / n + 1) ((k + 1) * nodes) n (omega arith)
+            (omega (arith, div-mul-le_self (k * nodes) n)),
+      );
       end = omega (arith, div_up ((k + 1) * nodes) (n * nodes) n some last, whole);
     }
 
 parts_within : (nodes n : ℕ) → 1 ≤ n → n ≤ nodes → AllByRecursion (IsWithin nodes) (parts nodes n)
 parts_within nodes n some few =
     all-map (λ k. k < n) (IsWithin nodes) (part nodes n) (λ k below. part_within nodes n k some few below)
-      (range_with_len 0 n) (all-range (λ k. k < n) 0 n (λ k from to. omega arith))
+    (range_with_len 0 n) (all-range (λ k. k < n) 0 n (λ k from to. omega arith))
 
 pub all_boxes : (P Q R : ℕ × ℕ → Type 0) (W : NodeBox → Type 0)
     → ((x y z : ℕ × ℕ) → P x → Q y → R z → W (box_of x y z)) → (xs ys zs : List (ℕ × ℕ))
     → AllByRecursion P xs → AllByRecursion Q ys → AllByRecursion R zs → AllByRecursion W (boxes_of xs ys zs)
 all_boxes P Q R W each xs ys zs all_x all_y all_z =
     all-flat_map P W (λ x. flat_map (λ y. map (box_of x y) zs) ys)
-      (λ x is_x. all-flat_map Q W (λ y. map (box_of x y) zs)
-        (λ y is_y. all-map R W (box_of x y) (λ z is_z. each x y z is_x is_y is_z) zs all_z)
-        ys all_y)
-      xs all_x
+    (λ x is_x. all-flat_map Q W (λ y. map (box_of x y) zs)
+    (λ y is_y. all-map R W (box_of x y) (λ z is_z. each x y z is_x is_y is_z) zs all_z)
+    ys all_y)
+    xs all_x
 
 roots_inside : (g : GridSize) (kx ky kz : ℕ) → 1 ≤ kx → kx ≤ g.x → 1 ≤ ky → ky ≤ g.y → 1 ≤ kz → kz ≤ g.z
     → AllByRecursion (IsIn g) (boxes_of (parts g.x kx) (parts g.y ky) (parts g.z kz))
 roots_inside g kx ky kz some_x few_x some_y few_y some_z few_z =
     all_boxes (IsWithin g.x) (IsWithin g.y) (IsWithin g.z) (IsIn g)
-      (λ x y z in_x in_y in_z. record {
-        x = in_x.some; x_end = in_x.end; y = in_y.some; y_end = in_y.end; z = in_z.some; z_end = in_z.end;
-      })
-      (parts g.x kx) (parts g.y ky) (parts g.z kz)
-      (parts_within g.x kx some_x few_x) (parts_within g.y ky some_y few_y) (parts_within g.z kz some_z few_z)
+    (λ x y z in_x in_y in_z. record {
+      x = in_x.some;
+      x_end = in_x.end;
+      y = in_y.some;
+      y_end = in_y.end;
+      z = in_z.some;
+      z_end = in_z.end;
+    })
+    (parts g.x kx) (parts g.y ky) (parts g.z kz)
+    (parts_within g.x kx some_x few_x) (parts_within g.y ky some_y few_y) (parts_within g.z kz some_z few_z)
 
 at_inside : (i nodes : ℕ) → i < nodes → at i (0, nodes) ≡ 1
 at_inside i nodes below = grind (arith, nat_tests)
@@ -81,9 +89,9 @@ roots_once g kx ky kz ix iy iz some_x some_y some_z inside =
     let y = sum_parts (at iy) (at-adds iy) g.y ky some_y ∙ at_inside iy g.y inside.y in
     let z = sum_parts (at iz) (at-adds iz) g.z kz some_z ∙ at_inside iz g.z inside.z in
     sum_by-same (λ a. cond (contains a ix iy iz) 1 0) (weigh (at ix) (at iy) (at iz))
-      (contains-at ix iy iz) boxes
-      ∙ sum_boxes (at ix) (at iy) (at iz) (parts g.x kx) (parts g.y ky) (parts g.z kz)
-      ∙ rw (x, y, z) refl
+    (contains-at ix iy iz) boxes
+    ∙ sum_boxes (at ix) (at iy) (at iz) (parts g.x kx) (parts g.y ky) (parts g.z kz)
+    ∙ rw (x, y, z) refl
 
 roots_nodes : (g : GridSize) (kx ky kz : ℕ) → 1 ≤ kx → 1 ≤ ky → 1 ≤ kz
     → sum_by node_count_of (boxes_of (parts g.x kx) (parts g.y ky) (parts g.z kz)) ≡ node_count g
@@ -92,7 +100,7 @@ roots_nodes g kx ky kz some_x some_y some_z =
     let y : sum_by places (parts g.y ky) ≡ g.y = sum_parts places places-adds g.y ky some_y ∙ omega arith in
     let z : sum_by places (parts g.z kz) ≡ g.z = sum_parts places places-adds g.z kz some_z ∙ omega arith in
     sum_boxes places places places (parts g.x kx) (parts g.y ky) (parts g.z kz)
-      ∙ rw (x, y, z) (grind arith)
+    ∙ rw (x, y, z) (grind arith)
 
 within : (n nodes : ℕ) → 1 ≤ nodes → (1 ≤ count_within n nodes) × (count_within n nodes ≤ nodes)
 within n nodes some = (omega arith, omega arith)
@@ -105,9 +113,9 @@ roots_of-are g nx ny nz grid =
     let z = within nz g.z grid.z_from in
     record {
       inside = roots_inside g (count_within nx g.x) (count_within ny g.y) (count_within nz g.z)
-        x.0 x.1 y.0 y.1 z.0 z.1;
+          x.0 x.1 y.0 y.1 z.0 z.1;
       once = λ ix iy iz. roots_once g (count_within nx g.x) (count_within ny g.y) (count_within nz g.z)
-        ix iy iz x.0 y.0 z.0;
+          ix iy iz x.0 y.0 z.0;
       nodes = roots_nodes g (count_within nx g.x) (count_within ny g.y) (count_within nz g.z) x.0 y.0 z.0;
     }
 
@@ -117,10 +125,10 @@ are_roots g nx ny nz roots grid is = rw is (roots_of-are g nx ny nz grid)
 
 pub length-roots_of : (g : GridSize) (nx ny nz : ℕ)
     → length (roots_of g nx ny nz)
-      ≡ count_within nx g.x * (count_within ny g.y * count_within nz g.z)
+    ≡ count_within nx g.x * (count_within ny g.y * count_within nz g.z)
 unfolding roots_of
 length-roots_of g nx ny nz =
     let length-parts : (nodes n : ℕ) → length (parts nodes n) ≡ n =
-      λ nodes n. length-map (range_with_len 0 n) (part nodes n) ∙ length-range_with_len 0 n in
+    λ nodes n. length-map (range_with_len 0 n) (part nodes n) ∙ length-range_with_len 0 n in
     length-boxes_of (parts g.x (count_within nx g.x)) (parts g.y (count_within ny g.y)) (parts g.z (count_within nz g.z))
-      ∙ rw (length-parts g.x (count_within nx g.x), length-parts g.y (count_within ny g.y), length-parts g.z (count_within nz g.z)) refl
+    ∙ rw (length-parts g.x (count_within nx g.x), length-parts g.y (count_within ny g.y), length-parts g.z (count_within nz g.z)) refl

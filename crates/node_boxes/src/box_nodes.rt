@@ -73,3 +73,30 @@ impl BoxNodes {
         None
     }
 }
+
+#[cfg(test)]
+mod tests {
+    use super::*;
+
+    #[test]
+    fn a_walk_goes_through_a_box_in_grid_order(rt: HostRuntime) {
+        let Some(grid) = Grid::new(3, 4, 5) else {
+            assert!(rt; false);
+            return;
+        };
+        let area = NodeBox {
+            x0: 1,
+            x1: 3,
+            y0: 2,
+            y1: 4,
+            z0: 3,
+            z1: 5,
+        };
+        let mut nodes = BoxNodes::new(&grid, &area);
+        for node in [33, 34, 38, 39, 53, 54, 58, 59] {
+            assert_eq!(rt; nodes.next(), Some(node));
+        }
+        assert_eq!(rt; nodes.next(), None);
+        assert_eq!(rt; nodes.next(), None);
+    }
+}

@@ -1,8 +1,8 @@
-ghost use Rattle.std.specs.Prelude.{◌≡◌, ℕ, ◌*◌, ◌<◌, ◌≤◌, List, length, All, AllPairs, cond, sum_by};
+ghost use Rattle.std.specs.Prelude.{◌≡◌, ℕ, ◌*◌, ◌<◌, ◌≤◌, List, length, All, AllPairs, Contains, IsTrue, cond};
 ghost use Rattle.node_boxes.specs.declared.node_box.NodeBox.{NodeBox};
 ghost use Rattle.node_boxes.specs.Grid.{GridSize, IsGrid, node_count};
 ghost use Rattle.node_boxes.specs.GridOrder.{IsInside};
-ghost use Rattle.node_boxes.specs.Boxes.{IsIn, IsNonempty, IsPartOf, IsSplittable, contains, node_count_of};
+ghost use Rattle.node_boxes.specs.Boxes.{IsIn, IsNonempty, IsPartOf, IsSplittable, contains, holds, node_count_of};
 ghost use Rattle.node_boxes.specs.Children.{children_of};
 ghost use Rattle.node_boxes.specs.Roots.{AreRoots, count_within, holders, roots_of};
 ghost use Rattle.node_boxes.specs.Octree.{IsOctreeBox, IsOctreeCover};
@@ -37,4 +37,15 @@ pub fn octree_law()
         → IsOctreeCover roots leaves → IsInside g ix iy iz → holders ix iy iz leaves ≡ 1 }
     ensures few { (g : GridSize) (roots leaves : List NodeBox) → AreRoots g roots
         → IsOctreeCover roots leaves → length leaves ≤ node_count g }
+{}
+
+/// The nodes of a box are those whose places it holds, in grid order, each once; a box in the grid has
+/// as many as the product of its ranges.
+pub fn box_nodes_law()
+    ensures below { (g : GridSize) (a : NodeBox) → All (λ node. node < node_count g) (box_nodes g a) }
+    ensures order { (g : GridSize) (a : NodeBox) → AllPairs ◌<◌ (box_nodes g a) }
+    ensures held { (g : GridSize) (a : NodeBox) → All (λ node. IsTrue (holds g a node)) (box_nodes g a) }
+    ensures all { (g : GridSize) (a : NodeBox) (node : ℕ) → node < node_count g
+        → IsTrue (holds g a node) → Contains (box_nodes g a) node }
+    ensures count { (g : GridSize) (a : NodeBox) → IsIn g a → length (box_nodes g a) ≡ node_count_of a }
 {}

@@ -17,6 +17,6 @@ pub use box_nodes::BoxNodes;
 pub use children::Children;
 pub use frame::Frame;
 pub use grid::{Grid, grid_order_law};
-pub use laws::{children_law, octree_law, roots_law};
+pub use laws::{box_nodes_law, children_law, octree_law, roots_law};
 pub use node_box::{BoxBound, NodeBox};
 pub use octree_roots::roots;

@@ -106,3 +106,61 @@ fn axis_part(axis: AxisParts, k: u32) -> (u32, u32)
     let end = (k + 1) * axis.nodes / axis.count;
     (start, end)
 }
+
+#[cfg(test)]
+mod tests {
+    use super::*;
+
+    fn area(x0: u32, x1: u32, y0: u32, y1: u32, z0: u32, z1: u32) -> NodeBox {
+        NodeBox {
+            x0,
+            x1,
+            y0,
+            y1,
+            z0,
+            z1,
+        }
+    }
+
+    #[test]
+    fn counts_are_brought_into_range_and_parts_rounded_down(rt: HostRuntime) {
+        let Some(grid) = Grid::new(5, 3, 1) else {
+            assert!(rt; false);
+            return;
+        };
+        let roots = roots(rt.alloc(), &grid, 2, 9, 0).unwrap();
+        assert_eq!(rt; roots.len(), 6);
+        assert_eq!(rt; roots[0], area(0, 2, 0, 1, 0, 1));
+        assert_eq!(rt; roots[5], area(2, 5, 2, 3, 0, 1));
+    }
+
+    #[test]
+    fn the_first_half_has_the_odd_node(rt: HostRuntime) {
+        let children = area(0, 5, 0, 3, 0, 1).children();
+        assert_eq!(rt; children.len(), 4);
+        assert_eq!(rt; children.get(0), Some(area(0, 3, 0, 2, 0, 1)));
+        assert_eq!(rt; children.get(1), Some(area(0, 3, 2, 3, 0, 1)));
+        assert_eq!(rt; children.get(2), Some(area(3, 5, 0, 2, 0, 1)));
+        assert_eq!(rt; children.get(3), Some(area(3, 5, 2, 3, 0, 1)));
+        assert_eq!(rt; children.get(4), None);
+    }
+
+    #[test]
+    fn empty_and_turned_ranges_lie_in_no_grid(rt: HostRuntime) {
+        let Some(grid) = Grid::new(5, 3, 1) else {
+            assert!(rt; false);
+            return;
+        };
+        for (area, inside, single) in [
+            (area(0, 5, 0, 3, 0, 1), true, false),
+            (area(4, 5, 2, 3, 0, 1), true, true),
+            (area(0, 6, 0, 3, 0, 1), false, false),
+            (area(2, 2, 0, 3, 0, 1), false, false),
+            (area(3, 2, 0, 1, 0, 1), false, false),
+            (area(u32::MAX - 1, u32::MAX, 0, 1, 0, 1), false, true),
+        ] {
+            assert_eq!(rt; area.is_in(&grid), inside, "{area:?}");
+            assert_eq!(rt; area.is_single(), single, "{area:?}");
+        }
+    }
+}

@@ -7,4 +7,4 @@ use Rattle.node_boxes.proofs.octree_roots.push_row.Given as goal
 abbrev pub invariant-loop-k : goal.invariant-loop-k
 invariant-loop-k l =
     l.roots.items ≡ l.initial.roots.items
-      ++ map (box_of l.x l.y) (map (part l.z.nodes l.z.count) (range_with_len 0 l.k))
+    ++ map (box_of l.x l.y) (map (part l.z.nodes l.z.count) (range_with_len 0 l.k))

@@ -8,6 +8,6 @@ pub loop-j-preserved : goal.loop-j-preserved
 loop-j-preserved c =
     let rows = λ (y : ℕ × ℕ). map (box_of c.args.x y) (parts c.args.z.nodes c.args.z.count) in
     c.in_ok-push_row.ensures
-      ∙ ap (λ (y : ℕ × ℕ). c.loop-j.roots.items ++ rows y) c.axis_part.ensures
-      ∙ part_more rows (part c.args.y.nodes c.args.y.count) c.loop-j.j
-          c.args.roots.now.items c.loop-j.roots.items c.loop-j.invariant
+    ∙ ap (λ (y : ℕ × ℕ). c.loop-j.roots.items ++ rows y) c.axis_part.ensures
+    ∙ part_more rows (part c.args.y.nodes c.args.y.count) c.loop-j.j
+    c.args.roots.now.items c.loop-j.roots.items c.loop-j.invariant

@@ -11,5 +11,5 @@ returns-clause-value c =
     let y = c.half_count-2.ensures.value in
     let z = c.half_count-3.ensures.value in
     rw (x, y, z)
-      (grind (arith, length-boxes_of (halves area.x0 area.x1) (halves area.y0 area.y1) (halves area.z0 area.z1)))
-      ∙ ap length c.self.view_is
+    (grind (arith, length-boxes_of (halves area.x0 area.x1) (halves area.y0 area.y1) (halves area.z0 area.z1)))
+    ∙ ap length c.self.view_is
