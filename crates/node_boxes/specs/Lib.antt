@@ -1,3 +1,10 @@
 pub mod Grid
 pub mod GridOrder
 pub mod Frame
+pub mod Boxes
+pub mod BoxLists
+pub mod Children
+pub mod Roots
+pub mod Octree
+pub mod BoxNodes
+pub mod Inside
