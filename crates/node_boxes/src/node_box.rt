@@ -7,7 +7,7 @@ use crate::grid::Grid;
 
 /// A box of nodes: those at the places from `x0` up to but not `x1` on the x axis, and so on the
 /// other axes.
-#[derive(Clone, Copy, PartialEq, Eq, Debug)]
+#[derive(Clone, Copy, PartialEq, Eq, PartialOrd, Ord, Debug)]
 pub struct NodeBox {
     pub x0: u32,
     pub x1: u32,
