@@ -1,0 +1,4 @@
+pub mod JoinSteps
+pub mod CellRows
+pub mod SmallBoxes
+pub mod CellSteps
