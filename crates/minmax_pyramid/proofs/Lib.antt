@@ -2,3 +2,5 @@ pub mod JoinSteps
 pub mod CellRows
 pub mod SmallBoxes
 pub mod CellSteps
+pub mod SpanLaws
+pub mod BelowSteps

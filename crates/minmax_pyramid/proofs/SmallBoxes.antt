@@ -47,9 +47,13 @@ child_inside g a c children k inside is at =
     let some = in_nonempty g a inside in
     part_inside g a c inside (part_at a c k some (ap (λ xs. slice_get xs k) (sym is) ∙ at))
 
+pub child_less : (a c : NodeBox) (k : ℕ) → IsNonempty a → is_single a ≡ false → slice_get (children_of a) k ≡ Some c
+    → node_count_of c < node_count_of a
+child_less a c k some several at =
+    all-contains (λ c. node_count_of c < node_count_of a) (children_of a) c
+      (children_smaller a (splittable a some several)) (placed (children_of a) k c at)
+
 pub child_smaller : (a c : NodeBox) (children : List NodeBox) (k : ℕ) → IsNonempty a → is_small a ≡ false
     → children ≡ children_of a → slice_get children k ≡ Some c → node_count_of c < node_count_of a
 child_smaller a c children k some large is at =
-    all-contains (λ c. node_count_of c < node_count_of a) (children_of a) c
-      (children_smaller a (splittable a some (large_several a large)))
-      (placed (children_of a) k c (ap (λ xs. slice_get xs k) (sym is) ∙ at))
+    child_less a c k some (large_several a large) (ap (λ xs. slice_get xs k) (sym is) ∙ at)

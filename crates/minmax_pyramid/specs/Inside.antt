@@ -2,3 +2,5 @@
 pub mod Joins
 pub mod Cells
 pub mod Below
+pub mod RowCells
+pub mod FamilyParts

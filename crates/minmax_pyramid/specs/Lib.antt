@@ -6,4 +6,6 @@ pub use Rattle.node_boxes.specs.Roots
 pub use Rattle.node_boxes.specs.Octree
 pub use Rattle.node_boxes.specs.BoxNodes
 pub mod Spans
+pub mod Families
+pub mod Rows
 pub mod Inside

@@ -6,3 +6,12 @@
 #![tactic(auto)]
 
 mod cell;
+mod descent;
+mod family;
+mod pyramid;
+mod pyramid_rows;
+
+pub use cell::Cell;
+pub use family::Family;
+pub use pyramid::Pyramid;
+pub use pyramid_rows::PyramidRows;
