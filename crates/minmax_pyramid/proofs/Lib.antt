@@ -4,3 +4,4 @@ pub mod SmallBoxes
 pub mod CellSteps
 pub mod SpanLaws
 pub mod BelowSteps
+pub mod FamilySteps

@@ -53,12 +53,16 @@ fn child_with(area: &NodeBox, target: &NodeBox) -> Option<(usize, NodeBox)>
     None
 }
 
-/// The place of the first root that holds the first node of a box. `None` exactly where no root does.
-pub(crate) fn root_with(roots: &[NodeBox], target: &NodeBox) -> Option<usize>
+/// The place of a root that holds the first node of a box, tried first at a guess. `None` exactly where
+/// no root does.
+pub(crate) fn root_with(roots: &[NodeBox], guess: usize, target: &NodeBox) -> Option<usize>
     ensures { MatchOption result
         (holders target.now.x0 target.now.y0 target.now.z0 roots.now ≡ 0)
         (λ place. (root : NodeBox) → slice_get roots.now place ≡ Some root → IsHolderAt roots.now target.now place root) }
 {
+    if guess < roots.len() && roots[guess].contains(target.x0, target.y0, target.z0) {
+        return Some(guess);
+    }
     for place in 0..roots.len() {
         if roots[place].contains(target.x0, target.y0, target.z0) {
             return Some(place);

@@ -10,6 +10,7 @@ mod descent;
 mod family;
 mod pyramid;
 mod pyramid_rows;
+mod root_counts;
 
 pub use cell::Cell;
 pub use family::Family;

@@ -14,6 +14,7 @@ ghost use Rattle.minmax_pyramid.specs.Inside.Cells.{IsCell};
 use crate::cell::{Cell, build_cell, cell_span, kid_of};
 use crate::descent::{root_with, span_below};
 use crate::family::{Family, find_family};
+use crate::root_counts::RootCounts;
 use node_boxes::{Grid, NodeBox};
 use std::alloc::{AllocError, Global};
 use std::marker::Model;
@@ -24,6 +25,7 @@ use std::marker::Model;
 pub struct PyramidRows {
     grid: Grid,
     roots: Vec<NodeBox>,
+    counts: RootCounts,
     rows: Vec<Row>,
 }
 
@@ -51,9 +53,11 @@ impl PyramidRows {
         requires { AreRoots grid roots.items }
         ensures { result ≡ record { grid = grid; roots = roots.items; rows = [] } }
     {
+        let counts = RootCounts::of(&roots);
         PyramidRows {
             grid,
             roots,
+            counts,
             rows: Vec::new(alloc),
         }
     }
@@ -109,7 +113,7 @@ impl PyramidRows {
         ensures some { IsSome result ↔ IsOctreeBox self.now.roots area.now }
         ensures span { IfSome result (λ span. span ≡ span_of self.now.grid (row_times self.now row) area.now) }
     {
-        let place = root_with(&self.roots, area)?;
+        let place = root_with(&self.roots, self.counts.guess(&self.grid, area), area)?;
         let row = &self.rows[row];
         span_below(&self.grid, &row.times, &self.roots[place], &row.cells[place], area)
     }
@@ -119,7 +123,7 @@ impl PyramidRows {
     pub fn find_family(&self, area: &NodeBox) -> Option<Family>
         ensures { IfSome result (λ family. IsFamilyOf self.now.roots family) }
     {
-        let root = root_with(&self.roots, area)?;
+        let root = root_with(&self.roots, self.counts.guess(&self.grid, area), area)?;
         find_family(&self.roots, root, area)
     }
 
