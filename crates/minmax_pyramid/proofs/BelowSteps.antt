@@ -171,5 +171,5 @@ pub holders_none : (ix iy iz : ℕ) (xs : List NodeBox) (k : ℕ) → length xs 
 holders_none ix iy iz xs k end none = rw (take_all k xs end) at none
 
 pub none_empty : {X : Type 0} (o : Option X) → o ≡ None → IsSome o → ⊥
-none_empty None is some = both_ways (is_some {T = X} None) refl some
-none_empty (Some x) is some = none-some x (sym is)
+none_empty {X = X} None is some = both_ways (is_some {T = X} None) refl some
+none_empty {X = X} (Some x) is some = none-some x (sym is)

@@ -5,3 +5,4 @@ pub mod CellSteps
 pub mod SpanLaws
 pub mod BelowSteps
 pub mod FamilySteps
+pub mod RowSteps

@@ -5,7 +5,7 @@ ghost use Rattle.node_boxes.specs.Children.{children_of};
 ghost use Rattle.node_boxes.specs.Roots.{holders};
 ghost use Rattle.minmax_pyramid.specs.Spans.{span_of, time_in};
 ghost use Rattle.minmax_pyramid.specs.Inside.Cells.{IsCell};
-ghost use Rattle.minmax_pyramid.specs.Inside.Below.{IsBelow, IsHolderAt};
+ghost use Rattle.minmax_pyramid.specs.Inside.Below.{IsBelow, IsHolderAt, IsHolderPlace};
 
 use crate::cell::{Cell, cell_span, kid_of};
 use node_boxes::{Grid, NodeBox};
@@ -58,7 +58,7 @@ fn child_with(area: &NodeBox, target: &NodeBox) -> Option<(usize, NodeBox)>
 pub(crate) fn root_with(roots: &[NodeBox], guess: usize, target: &NodeBox) -> Option<usize>
     ensures { MatchOption result
         (holders target.now.x0 target.now.y0 target.now.z0 roots.now ≡ 0)
-        (λ place. (root : NodeBox) → slice_get roots.now place ≡ Some root → IsHolderAt roots.now target.now place root) }
+        (λ place. IsHolderPlace roots.now target.now place) }
 {
     if guess < roots.len() && roots[guess].contains(target.x0, target.y0, target.z0) {
         return Some(guess);

@@ -27,7 +27,7 @@ pub returns-in_err-place-clause-some : goal.returns-in_err-place-clause-some
 returns-in_err-place-clause-some t c =
     let some = in_nonempty c.args.grid.now c.args.area.now c.requires.inside in
     let none = c.from_residual.ensures in
-    (λ yes. none_empty c.from_residual.result none yes,
+    (λ yes. absurd (none_empty c.from_residual.result none yes),
      λ below. absurd (below_none c.args.area.now c.args.target.now some c.in_err-place.ensures
        (λ same. both_ways c.is_same.result c.if-is_same.false (c.is_same.ensures.1 same)) below))
 
