@@ -1,5 +1,5 @@
 -- The octree boxes below a root, and which child or root one lies below.
-use Rattle.std.proofs.Common.{◌≡◌, ◌∙◌, ◌⊎◌, inl, inr, ap, sym, refl, subst, ℕ, zero, suc, ◌+◌, ◌<◌, ◌≤◌, arith, List, [], ◌∷◌, ◌++◌, length, get_or, take, slice_get, Some, None, Option, IsSome, is_some, Bool, true, false, cond, sum_by, Contains, nat_le, nat_lt, ◌&&◌}
+use Rattle.std.proofs.Common.{◌≡◌, ◌∙◌, inl, inr, ap, sym, refl, subst, ℕ, ◌+◌, ◌<◌, ◌≤◌, arith, List, [], ◌∷◌, ◌++◌, length, get_or, take, slice_get, Some, None, Option, IsSome, is_some, Bool, true, false, cond, sum_by, Contains}
 use Rattle.std.proofs.lemmas.Bool.{both_ways}
 use Rattle.std.proofs.lemmas.Bool.Decides.{nat_tests}
 use Rattle.std.proofs.lemmas.List.{take_more, take_all}
@@ -7,7 +7,6 @@ use Rattle.std.proofs.lemmas.List.Sums.{sum_by-cons, sum_by_push}
 use Rattle.std.proofs.lemmas.Option.{slice_get_within, get_or_from_slice_get, none-some}
 use Rattle.node_boxes.specs.declared.node_box.NodeBox.{NodeBox}
 use Rattle.node_boxes.specs.Grid.{GridSize}
-use Rattle.node_boxes.specs.GridOrder.{IsInside}
 use Rattle.node_boxes.specs.Boxes.{IsIn, IsNonempty, IsPartOf, contains, is_single}
 use Rattle.node_boxes.specs.Children.{children_of}
 use Rattle.node_boxes.specs.Roots.{AreRoots, holders}
@@ -19,19 +18,25 @@ use Rattle.minmax_pyramid.specs.Inside.Below.{IsBelow, Here, Down}
 
 part_itself : (a : NodeBox) → IsNonempty a → IsPartOf a a
 part_itself a some = record {
-    nonempty = some;
-    x_from = omega arith; x_to = omega arith;
-    y_from = omega arith; y_to = omega arith;
-    z_from = omega arith; z_to = omega arith;
-  }
+  nonempty = some;
+  x_from = omega arith;
+  x_to = omega arith;
+  y_from = omega arith;
+  y_to = omega arith;
+  z_from = omega arith;
+  z_to = omega arith;
+}
 
 part_part : (a b c : NodeBox) → IsPartOf a b → IsPartOf b c → IsPartOf a c
 part_part a b c first second = record {
-    nonempty = second.nonempty;
-    x_from = omega (arith, first.x_from, second.x_from); x_to = omega (arith, first.x_to, second.x_to);
-    y_from = omega (arith, first.y_from, second.y_from); y_to = omega (arith, first.y_to, second.y_to);
-    z_from = omega (arith, first.z_from, second.z_from); z_to = omega (arith, first.z_to, second.z_to);
-  }
+  nonempty = second.nonempty;
+  x_from = omega (arith, first.x_from, second.x_from);
+  x_to = omega (arith, first.x_to, second.x_to);
+  y_from = omega (arith, first.y_from, second.y_from);
+  y_to = omega (arith, first.y_to, second.y_to);
+  z_from = omega (arith, first.z_from, second.z_from);
+  z_to = omega (arith, first.z_to, second.z_to);
+}
 
 pub below_part : (b a : NodeBox) → IsNonempty a → IsBelow b a → IsPartOf a b
 below_part b a some Here = part_itself a some
@@ -63,11 +68,11 @@ counts : (q : NodeBox → Bool) (xs : List NodeBox) (c : NodeBox) → Contains x
     → 1 ≤ sum_by (λ a. cond {A = ℕ} (q a) 1 0) xs
 counts q [] c (k, below, is) passes = absurd (omega arith)
 counts q (a ∷ xs) c at passes = elim (first_or_rest a xs c at) [
-    inl is ↦
+  | inl is ↦
       let here : q a ≡ true = ap q is ∙ passes in
       omega (arith, sum_by-cons (λ a. cond {A = ℕ} (q a) 1 0) a xs, one_counts q a here)
   | inr after ↦ omega (arith, sum_by-cons (λ a. cond {A = ℕ} (q a) 1 0) a xs, counts q xs c after passes)
-  ]
+]
 
 -- of a list in which at most one passes, two that pass are one
 pub only : (q : NodeBox → Bool) (xs : List NodeBox) (c d : NodeBox) → sum_by (λ a. cond {A = ℕ} (q a) 1 0) xs ≤ 1
@@ -76,14 +81,14 @@ only q [] c d few (k, below, is) at_d yes_c yes_d = absurd (omega arith)
 only q (a ∷ xs) c d few at_c at_d yes_c yes_d =
     let all = sum_by-cons (λ a. cond {A = ℕ} (q a) 1 0) a xs in
     elim (first_or_rest a xs c at_c) [
-      inl is_c ↦ elim (first_or_rest a xs d at_d) [
-          inl is_d ↦ sym is_c ∙ is_d
+      | inl is_c ↦ elim (first_or_rest a xs d at_d) [
+        | inl is_d ↦ sym is_c ∙ is_d
         | inr after_d ↦ absurd (omega (arith, all, one_counts q a (ap q is_c ∙ yes_c), counts q xs d after_d yes_d))
-        ]
-    | inr after_c ↦ elim (first_or_rest a xs d at_d) [
-          inl is_d ↦ absurd (omega (arith, all, one_counts q a (ap q is_d ∙ yes_d), counts q xs c after_c yes_c))
+      ]
+      | inr after_c ↦ elim (first_or_rest a xs d at_d) [
+        | inl is_d ↦ absurd (omega (arith, all, one_counts q a (ap q is_d ∙ yes_d), counts q xs c after_c yes_c))
         | inr after_d ↦ only q xs c d (omega (arith, all)) after_c after_d yes_c yes_d
-        ]
+      ]
     ]
 
 cond_few : (b : Bool) → cond {A = ℕ} b 1 0 ≤ 1
@@ -151,7 +156,9 @@ below_root g roots b r are at held tree =
     let up = rooted g roots b are tree in
     let inside = octree_inside g roots b are tree in
     let once = are.once b.x0 b.y0 b.z0 (record {
-      x = omega (arith, inside.x, inside.x_end); y = omega (arith, inside.y, inside.y_end); z = omega (arith, inside.z, inside.z_end);
+      x = omega (arith, inside.x, inside.x_end);
+      y = omega (arith, inside.y, inside.y_end);
+      z = omega (arith, inside.z, inside.z_end);
     }) in
     subst (IsBelow b) (only (λ e. contains e b.x0 b.y0 b.z0) roots up.0 r (omega (arith, once)) up.1 at up.3 held) up.2
 
@@ -162,7 +169,7 @@ holders_more ix iy iz xs k c at out none =
     let within = slice_get_within xs k c at in
     let is : get_or xs k c ≡ c = get_or_from_slice_get xs k c c at in
     let more : take (k + 1) xs ≡ take k xs ++ c ∷ [] =
-      take_more xs k c within ∙ ap (λ n. take k xs ++ n ∷ []) is in
+    take_more xs k c within ∙ ap (λ n. take k xs ++ n ∷ []) is in
     let zero' : cond {A = ℕ} (contains c ix iy iz) 1 0 ≡ 0 = rw out refl in
     rw more (omega (arith, sum_by_push (λ a. cond {A = ℕ} (contains a ix iy iz) 1 0) (take k xs) c))
 

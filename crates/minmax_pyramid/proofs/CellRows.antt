@@ -1,5 +1,5 @@
 -- The cells of the vector in a cell: one by one beside the boxes.
-use Rattle.std.proofs.Common.{◌≡◌, ℕ, zero, suc, ◌+◌, ◌<◌, ◌≤◌, arith, List, [], ◌∷◌, ◌++◌, length, get_or, slice_get, Some, subst, sym, refl, ap}
+use Rattle.std.proofs.Common.{◌≡◌, ℕ, zero, suc, ◌<◌, arith, List, [], ◌∷◌, ◌++◌, length, get_or, slice_get, Some, subst, refl, ap}
 use Rattle.std.specs.List.{AllZip}
 use Rattle.std.specs.declared.boxed.Box.{Box}
 use Rattle.std.specs.declared.alloc.Global.{Global}
@@ -35,13 +35,13 @@ pub to_cells : (g : GridSize) (time : ℕ → ℕ) (areas : List NodeBox) (kids 
     → ZipCells g time areas kids.items → AreCells g time areas (hidden-the_row-Cell-Split-2-1-0 kids)
 to_cells g time areas kids zip =
     to_row g time areas (hidden-the_row-Cell-Split-2-1-0 kids)
-      (rw (items_hidden-the_row-Cell-Split-2-1-0 kids) zip)
+    (rw (items_hidden-the_row-Cell-Split-2-1-0 kids) zip)
 
 pub of_cells : (g : GridSize) (time : ℕ → ℕ) (areas : List NodeBox) (kids : Vec (Box Cell Global) Global)
     → AreCells g time areas (hidden-the_row-Cell-Split-2-1-0 kids) → ZipCells g time areas kids.items
 of_cells g time areas kids cells =
     rw (items_hidden-the_row-Cell-Split-2-1-0 kids) at
-      (of_row g time areas (hidden-the_row-Cell-Split-2-1-0 kids) cells)
+    (of_row g time areas (hidden-the_row-Cell-Split-2-1-0 kids) cells)
 
 -- one more box with its cell
 pub zip_push : {A B : Type 0} (R : A → B → Type 0) (xs : List A) (ys : List B) (x : A) (y : B) → AllZip R xs ys

@@ -1,5 +1,5 @@
 -- Ways down an octree, and lists that are filled place by place.
-use Rattle.std.proofs.Common.{◌≡◌, ◌∙◌, ◌⊎◌, inl, inr, ap, sym, refl, subst, ℕ, zero, suc, ◌+◌, ◌<◌, ◌≤◌, arith, List, [], ◌∷◌, ◌++◌, length, get_or, set, take, slice_get, Some}
+use Rattle.std.proofs.Common.{◌≡◌, ◌∙◌, inl, inr, ap, sym, refl, subst, ℕ, zero, suc, ◌+◌, ◌<◌, ◌≤◌, arith, List, [], ◌∷◌, ◌++◌, length, get_or, set, take, slice_get, Some}
 use Rattle.std.proofs.lemmas.List.{take_more, take_more_set, take_all, length-set}
 use Rattle.std.proofs.lemmas.Option.{slice_get_within, slice_get-get_or, get_or_from_slice_get, same_Some}
 use Rattle.std.proofs.lemmas.Bool.{cases_lt}
@@ -9,9 +9,9 @@ use Rattle.node_boxes.specs.Boxes.{IsIn, IsNonempty, IsSplittable}
 use Rattle.node_boxes.specs.Children.{children_of}
 use Rattle.node_boxes.specs.Octree.{IsOctreeBox, Child}
 use Rattle.node_boxes.proofs.ChildBoxes.{children_count}
-use Rattle.node_boxes.proofs.OctreeBoxes.{in_nonempty, part_inside}
+use Rattle.node_boxes.proofs.OctreeBoxes.{part_inside}
 use Rattle.minmax_pyramid.specs.Families.{IsWay}
-use Rattle.minmax_pyramid.proofs.SmallBoxes.{part_at, placed, none_past}
+use Rattle.minmax_pyramid.proofs.SmallBoxes.{part_at, placed}
 
 -- one more step at the end
 pub way_more : (a : NodeBox) (places : List ℕ) (b c : NodeBox) (place : ℕ) → IsWay a places b → IsSplittable b
@@ -43,13 +43,13 @@ pub going_more : (roots : List NodeBox) (root len : ℕ) (places : List ℕ) (he
     → IsSplittable here → slice_get (children_of here) place ≡ Some c → IsGoing roots root len places here
     → IsGoing roots root (len + 1) (set places len place) c
 going_more roots root len places here c place below split at going = record {
-    long = length-set places len place ∙ going.long;
-    some = (part_at here c place split.nonempty at).nonempty;
-    down = λ d.
+  long = length-set places len place ∙ going.long;
+  some = (part_at here c place split.nonempty at).nonempty;
+  down = λ d.
       let within : len < length places = omega (arith, going.long) in
       rw (take_more_set places len place within)
-        (way_more (get_or roots root d) (take len places) here c place (going.down d) split at);
-  }
+      (way_more (get_or roots root d) (take len places) here c place (going.down d) split at);
+}
 
 -- the first boxes of a list stand first in another of eight
 pub record IsCopying (boxes : List NodeBox) (copy : List NodeBox) (place : ℕ) : Type 0 where
@@ -65,7 +65,7 @@ copying_more boxes copy place c few at copying =
     record {
       room = length-set copy place c ∙ copying.room;
       first = take_more_set copy place c room ∙ ap (λ xs. xs ++ c ∷ []) copying.first
-        ∙ sym (take_more boxes place c within ∙ ap (λ n. take place boxes ++ n ∷ []) is);
+          ∙ sym (take_more boxes place c within ∙ ap (λ n. take place boxes ++ n ∷ []) is);
     }
 
 pub copying_end : (boxes copy : List NodeBox) (place count : ℕ) → length boxes ≤ place → place ≤ count
@@ -94,21 +94,21 @@ filled_at : {X : Type 0} (f : NodeBox → X) (boxes : List NodeBox) (xs : List X
     → slice_get boxes place ≡ Some a → x ≡ f a → place < 8 → IsFilled f boxes xs place → k < place + 1
     → slice_get boxes k ≡ Some c → slice_get (set xs place x) k ≡ Some (f c)
 filled_at f boxes xs place k a c x at is few filled below at_k = elim (cases_lt k place) [
-    inl before ↦ set_there xs place k x before ∙ filled.filled k c before at_k
+  | inl before ↦ set_there xs place k x before ∙ filled.filled k c before at_k
   | inr past ↦
       let here : place ≡ k = omega arith in
       let same : a ≡ c = same_Some a c (sym at ∙ ap (slice_get boxes) here ∙ at_k) in
       let room : place < length xs = omega (arith, filled.long) in
       ap (slice_get (set xs place x)) (sym here) ∙ set_here xs place x room ∙ ap Some (is ∙ ap f same)
-  ]
+]
 
 pub filled_more : {X : Type 0} (f : NodeBox → X) (boxes : List NodeBox) (xs : List X) (place : ℕ) (a : NodeBox) (x : X)
     → slice_get boxes place ≡ Some a → x ≡ f a → place < 8 → IsFilled f boxes xs place
     → IsFilled f boxes (set xs place x) (place + 1)
 filled_more f boxes xs place a x at is few filled = record {
-    long = length-set xs place x ∙ filled.long;
-    filled = λ k c below at_k. filled_at f boxes xs place k a c x at is few filled below at_k;
-  }
+  long = length-set xs place x ∙ filled.long;
+  filled = λ k c below at_k. filled_at f boxes xs place k a c x at is few filled below at_k;
+}
 
 pub filled_end : {X : Type 0} (f : NodeBox → X) (boxes : List NodeBox) (xs : List X) (place : ℕ) → length boxes ≤ place
     → IsFilled f boxes xs place → (k : ℕ) (c : NodeBox) → slice_get boxes k ≡ Some c → slice_get xs k ≡ Some (f c)

@@ -1,12 +1,11 @@
 -- What is joined of the children of a box is joined of the box.
-use Rattle.std.proofs.Common.{◌≡◌, ◌⊎◌, inl, inr, ℕ, zero, suc, ◌+◌, ◌<◌, ◌≤◌, min, max, arith, List, [], ◌∷◌, ◌++◌, length, map, refl, ap, sym, ◌∙◌, Bool, true, false, cond, ◌||◌, filter, sum_by, All}
+use Rattle.std.proofs.Common.{◌≡◌, ℕ, ◌<◌, ◌≤◌, min, max, arith, List, [], ◌∷◌, ◌++◌, map, refl, ap, sym, ◌∙◌, Bool, true, false, cond, ◌||◌, filter, sum_by, All}
 use Rattle.std.specs.List.{list_any}
-use Rattle.std.proofs.lemmas.Bool.{cases_Bool}
 use Rattle.std.proofs.lemmas.List.Sums.{sum_by-cons}
 use Rattle.node_boxes.specs.declared.node_box.NodeBox.{NodeBox}
 use Rattle.node_boxes.specs.Grid.{GridSize, node_count}
 use Rattle.node_boxes.specs.GridOrder.{all_nodes, place_of}
-use Rattle.node_boxes.specs.Boxes.{IsNonempty, contains, holds}
+use Rattle.node_boxes.specs.Boxes.{IsNonempty, holds}
 use Rattle.node_boxes.specs.Children.{children_of}
 use Rattle.node_boxes.specs.Roots.{holders}
 use Rattle.node_boxes.specs.BoxNodes.{box_nodes}
@@ -25,21 +24,21 @@ pub record Joins (op : ℕ → ℕ → ℕ) (end : ℕ) : Type 0 where
 
 pub min-joins : Joins min 4294967295
 min-joins = record {
-    none = refl;
-    both = λ t a r. omega arith;
-    first = λ t a r. omega arith;
-    second = λ t a r. omega arith;
-    last = λ t. omega arith;
-  }
+  none = refl;
+  both = λ t a r. omega arith;
+  first = λ t a r. omega arith;
+  second = λ t a r. omega arith;
+  last = λ t. omega arith;
+}
 
 pub max-joins : Joins max 0
 max-joins = record {
-    none = refl;
-    both = λ t a r. omega arith;
-    first = λ t a r. omega arith;
-    second = λ t a r. omega arith;
-    last = λ t. omega arith;
-  }
+  none = refl;
+  both = λ t a r. omega arith;
+  first = λ t a r. omega arith;
+  second = λ t a r. omega arith;
+  last = λ t. omega arith;
+}
 
 -- `t` joined where the test holds
 put : (ℕ → ℕ → ℕ) → Bool → ℕ → ℕ → ℕ
@@ -56,12 +55,12 @@ put_step op end is false false t a r = refl
 joined_put : (op : ℕ → ℕ → ℕ) (end : ℕ) → Joins op end → (q : NodeBox → Bool) (value : NodeBox → ℕ) (t : ℕ)
     → (boxes : List NodeBox)
     → joined op end (map (λ c. put op (q c) t (value c)) boxes)
-      ≡ put op (list_any q boxes) t (joined op end (map value boxes))
+    ≡ put op (list_any q boxes) t (joined op end (map value boxes))
 unfolding put
 joined_put op end is q value t [] = refl
 joined_put op end is q value t (c ∷ cs) =
     ap (λ n. op (put op (q c) t (value c)) n) (joined_put op end is q value t cs)
-      ∙ put_step op end is (q c) (list_any q cs) t (value c) (joined op end (map value cs))
+    ∙ put_step op end is (q c) (list_any q cs) t (value c) (joined op end (map value cs))
 
 joined_cond : (op : ℕ → ℕ → ℕ) (end : ℕ) (time : ℕ → ℕ) (test : Bool) (x : ℕ) (xs : List ℕ)
     → joined op end (map time (cond test (x ∷ xs) xs)) ≡ put op test (time x) (joined op end (map time xs))
@@ -87,12 +86,12 @@ joined_parts : (op : ℕ → ℕ → ℕ) (end : ℕ) → Joins op end → (time
 joined_parts op end is time p q boxes any [] = joined_none op end is boxes
 joined_parts op end is time p q boxes any (x ∷ xs) =
     joined_cond op end time (p x) x (filter p xs)
-      ∙ ap (λ b. put op b (time x) (joined op end (map time (filter p xs)))) (sym (any x))
-      ∙ ap (put op (list_any (λ c. q c x) boxes) (time x)) (joined_parts op end is time p q boxes any xs)
-      ∙ sym (joined_put op end is (λ c. q c x) (λ c. joined op end (map time (filter (q c) xs))) (time x) boxes)
-      ∙ joined_same op end (λ c. put op (q c x) (time x) (joined op end (map time (filter (q c) xs))))
-          (λ c. joined op end (map time (cond (q c x) (x ∷ filter (q c) xs) (filter (q c) xs))))
-          (λ c. sym (joined_cond op end time (q c x) x (filter (q c) xs))) boxes
+    ∙ ap (λ b. put op b (time x) (joined op end (map time (filter p xs)))) (sym (any x))
+    ∙ ap (put op (list_any (λ c. q c x) boxes) (time x)) (joined_parts op end is time p q boxes any xs)
+    ∙ sym (joined_put op end is (λ c. q c x) (λ c. joined op end (map time (filter (q c) xs))) (time x) boxes)
+    ∙ joined_same op end (λ c. put op (q c x) (time x) (joined op end (map time (filter (q c) xs))))
+    (λ c. joined op end (map time (cond (q c x) (x ∷ filter (q c) xs) (filter (q c) xs))))
+    (λ c. sym (joined_cond op end time (q c x) x (filter (q c) xs))) boxes
 
 bit : Bool → ℕ
 bit b = cond b 1 0
@@ -106,20 +105,21 @@ bit_same false true n is some none = absurd (omega (arith, some refl))
 
 counted_step : (q : NodeBox → Bool) (c : NodeBox) (cs : List NodeBox) (here : Bool) → q c ≡ here
     → (list_any q cs ≡ true → 1 ≤ sum_by (λ c. cond (q c) 1 0) cs)
-      × (list_any q cs ≡ false → sum_by (λ c. cond (q c) 1 0) cs ≡ 0)
+    × (list_any q cs ≡ false → sum_by (λ c. cond (q c) 1 0) cs ≡ 0)
     → ((here || list_any q cs) ≡ true → 1 ≤ sum_by (λ c. cond (q c) 1 0) (c ∷ cs))
-      × ((here || list_any q cs) ≡ false → sum_by (λ c. cond (q c) 1 0) (c ∷ cs) ≡ 0)
+    × ((here || list_any q cs) ≡ false → sum_by (λ c. cond (q c) 1 0) (c ∷ cs) ≡ 0)
 counted_step q c cs true is rest =
     let one : cond {A = ℕ} (q c) 1 0 ≡ 1 = rw is refl in
     (λ yes. omega (arith, sum_by-cons (λ c. cond (q c) 1 0) c cs), λ no. absurd (cc))
 counted_step q c cs false is rest =
-    let none : cond {A = ℕ} (q c) 1 0 ≡ 0 = rw is refl in
-    (λ yes. omega (arith, sum_by-cons (λ c. cond (q c) 1 0) c cs, rest.0 yes),
-     λ no. omega (arith, sum_by-cons (λ c. cond (q c) 1 0) c cs, rest.1 no))
+    let none : cond {A = ℕ} (q c) 1 0 ≡ 0 = rw is refl in (
+      λ yes. omega (arith, sum_by-cons (λ c. cond (q c) 1 0) c cs, rest.0 yes),
+      λ no. omega (arith, sum_by-cons (λ c. cond (q c) 1 0) c cs, rest.1 no),
+    )
 
 any_counted : (q : NodeBox → Bool) (boxes : List NodeBox)
     → (list_any q boxes ≡ true → 1 ≤ sum_by (λ c. cond (q c) 1 0) boxes)
-      × (list_any q boxes ≡ false → sum_by (λ c. cond (q c) 1 0) boxes ≡ 0)
+    × (list_any q boxes ≡ false → sum_by (λ c. cond (q c) 1 0) boxes ≡ 0)
 any_counted q [] = (λ no. absurd (cc), λ yes. refl)
 any_counted q (c ∷ cs) = counted_step q c cs (q c) refl (any_counted q cs)
 
@@ -131,22 +131,22 @@ any_child g a node some =
     let place = place_of g node in
     let counts = any_counted (λ c. holds g c node) (children_of a) in
     bit_same (holds g a node) (list_any (λ c. holds g c node) (children_of a))
-      (holders place.0 place.1 place.2 (children_of a))
-      (children_once a place.0 place.1 place.2 some) counts.0 counts.1
+    (holders place.0 place.1 place.2 (children_of a))
+    (children_once a place.0 place.1 place.2 some) counts.0 counts.1
 
 pub lowest-children : (g : GridSize) (time : ℕ → ℕ) (a : NodeBox) → IsNonempty a
     → lowest_of g time a ≡ lowest (map (lowest_of g time) (children_of a))
 unfolding lowest_of box_nodes
 lowest-children g time a some =
     joined_parts min 4294967295 min-joins time (holds g a) (holds g) (children_of a)
-      (λ node. any_child g a node some) (all_nodes (node_count g))
+    (λ node. any_child g a node some) (all_nodes (node_count g))
 
 pub highest-children : (g : GridSize) (time : ℕ → ℕ) (a : NodeBox) → IsNonempty a
     → highest_of g time a ≡ highest (map (highest_of g time) (children_of a))
 unfolding highest_of box_nodes
 highest-children g time a some =
     joined_parts max 0 max-joins time (holds g a) (holds g) (children_of a)
-      (λ node. any_child g a node some) (all_nodes (node_count g))
+    (λ node. any_child g a node some) (all_nodes (node_count g))
 
 -- one more number
 pub joined_push : (op : ℕ → ℕ → ℕ) (end : ℕ) → Joins op end → (ns : List ℕ) (n : ℕ)
@@ -171,7 +171,7 @@ pub joining_start : (time : ℕ → ℕ) (count : ℕ) (g : GridSize) (a : NodeB
 unfolding lowest_of highest_of
 joining_start time count g a nodes all is =
     let below : All (λ node. node < count) (box_nodes g a) =
-      rw all (box_nodes-below g a) in
+    rw all (box_nodes-below g a) in
     rw is (record {
       within = below;
       fits = omega arith;
@@ -186,14 +186,15 @@ pub joining_more : (time : ℕ → ℕ) (count : ℕ) (g : GridSize) (a : NodeBo
 joining_more time count g a nodes least greatest node rest low high is low_is high_is joining =
     let within : All (λ n. n < count) (node ∷ rest) = rw is at joining.within in
     let was_low : min least (min (time node) (lowest (map time rest))) ≡ lowest_of g time a = rw is at joining.low in
-    let was_high : max greatest (max (time node) (highest (map time rest))) ≡ highest_of g time a = rw is at joining.high in
-    (All-head (λ n. n < count) node rest within,
-     record {
-       within = All-tail (λ n. n < count) node rest within;
-       fits = omega (arith, joining.fits);
-       low = omega arith;
-       high = omega arith;
-     })
+    let was_high : max greatest (max (time node) (highest (map time rest))) ≡ highest_of g time a = rw is at joining.high in (
+      All-head (λ n. n < count) node rest within,
+      record {
+        within = All-tail (λ n. n < count) node rest within;
+        fits = omega (arith, joining.fits);
+        low = omega arith;
+        high = omega arith;
+      },
+    )
 
 pub joining_end : (time : ℕ → ℕ) (count : ℕ) (g : GridSize) (a : NodeBox) (nodes : List ℕ) (least greatest : ℕ)
     → nodes ≡ [] → IsJoining time count g a nodes least greatest

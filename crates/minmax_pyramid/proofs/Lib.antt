@@ -6,3 +6,4 @@ pub mod SpanLaws
 pub mod BelowSteps
 pub mod FamilySteps
 pub mod RowSteps
+pub mod Enclosing

@@ -1,5 +1,5 @@
 -- The rows of a pyramid, read at a place.
-use Rattle.std.proofs.Common.{◌≡◌, ◌∙◌, ap, sym, refl, subst, ℕ, ◌<◌, arith, List, length, get_or, map, slice_get, Some, Contains}
+use Rattle.std.proofs.Common.{◌≡◌, sym, refl, subst, ℕ, ◌<◌, arith, List, length, get_or}
 use Rattle.std.specs.List.{AllByRecursion}
 use Rattle.std.proofs.lemmas.List.{length-map}
 use Rattle.std.proofs.lemmas.List.Elements.{All-from_recursion}
@@ -22,7 +22,7 @@ pub row_read : (g : GridSize) (roots : List NodeBox) (rows : List Row) (k : ℕ)
     → k < length (times_of rows) → row ≡ get_or rows k row → IsRow g roots row
 row_read g roots rows k row are below is =
     all_read (IsRow g roots) rows k row are.each
-      (omega (arith, length-map rows (λ (r : Row). r.times.items))) is
+    (omega (arith, length-map rows (λ (r : Row). r.times.items))) is
 
 -- the cell that stands at the place of a root is that of the root
 pub cell_read : (g : GridSize) (roots : List NodeBox) (row : Row) (k : ℕ) (root : NodeBox) (d : Cell) → IsRow g roots row
@@ -30,4 +30,4 @@ pub cell_read : (g : GridSize) (roots : List NodeBox) (row : Row) (k : ℕ) (roo
     → (k < length row.cells.items) × IsCell g (time_in row.times.items) root (get_or row.cells.items k d)
 cell_read g roots row k root d is below read =
     zip_at (IsCell g (time_in row.times.items)) roots row.cells.items k root d is.cells
-      (slice_get_read roots (length roots) k root refl below read)
+    (slice_get_read roots (length roots) k root refl below read)

@@ -1,5 +1,5 @@
 -- The children of a small box are small, and a box that isn't small can be split.
-use Rattle.std.proofs.Common.{◌≡◌, ◌∙◌, ap, sym, ℕ, zero, suc, [], ◌∷◌, None, ◌-◌, ◌<◌, ◌≤◌, arith, Bool, true, false, nat_le, ◌&&◌, ◌==◌, Some, slice_get, Contains, List, length, get_or}
+use Rattle.std.proofs.Common.{◌≡◌, ◌∙◌, ap, sym, ℕ, zero, suc, [], ◌∷◌, None, ◌<◌, ◌≤◌, arith, true, false, Some, slice_get, Contains, List, length}
 use Rattle.std.proofs.lemmas.Bool.Decides.{nat_tests}
 use Rattle.std.proofs.lemmas.Option.{slice_get_within, get_or_from_slice_get}
 use Rattle.node_boxes.specs.declared.node_box.NodeBox.{NodeBox}
@@ -51,7 +51,7 @@ pub child_less : (a c : NodeBox) (k : ℕ) → IsNonempty a → is_single a ≡ 
     → node_count_of c < node_count_of a
 child_less a c k some several at =
     all-contains (λ c. node_count_of c < node_count_of a) (children_of a) c
-      (children_smaller a (splittable a some several)) (placed (children_of a) k c at)
+    (children_smaller a (splittable a some several)) (placed (children_of a) k c at)
 
 pub child_smaller : (a c : NodeBox) (children : List NodeBox) (k : ℕ) → IsNonempty a → is_small a ≡ false
     → children ≡ children_of a → slice_get children k ≡ Some c → node_count_of c < node_count_of a

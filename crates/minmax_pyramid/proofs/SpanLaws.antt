@@ -1,9 +1,8 @@
 -- The span of a box is what was joined of its times; it encloses that of each part.
-use Rattle.std.proofs.Common.{◌≡◌, ◌∙◌, ap, sym, refl, subst, ℕ, zero, suc, ◌+◌, ◌<◌, ◌≤◌, ◌^◌, min, max, arith, List, [], ◌∷◌, length, map, Bool, true, false, cond, filter}
-use Rattle.std.proofs.lemmas.List.{length-map}
+use Rattle.std.proofs.Common.{◌≡◌, ap, refl, ℕ, ◌<◌, ◌^◌, min, max, arith, List, [], ◌∷◌, length, map}
 use Rattle.node_boxes.specs.declared.node_box.NodeBox.{NodeBox}
 use Rattle.node_boxes.specs.Grid.{GridSize}
-use Rattle.node_boxes.specs.Boxes.{IsIn, node_count_of}
+use Rattle.node_boxes.specs.Boxes.{IsIn}
 use Rattle.node_boxes.specs.BoxNodes.{box_nodes}
 use Rattle.node_boxes.proofs.Nodes.{box_nodes-length}
 use Rattle.node_boxes.proofs.ChildBoxes.{node_count-some}
@@ -27,5 +26,5 @@ pub reach-span : (g : GridSize) (time : ℕ → ℕ) (a : NodeBox) → IsIn g a 
 unfolding lowest_of highest_of span_of
 reach-span g time a inside fits =
     let some : 0 < length (box_nodes g a) =
-      omega (arith, box_nodes-length g a inside, node_count-some a (in_nonempty g a inside)) in
+    omega (arith, box_nodes-length g a inside, node_count-some a (in_nonempty g a inside)) in
     rw (lowest-least time fits (box_nodes g a) some, highest-greatest (map time (box_nodes g a))) refl

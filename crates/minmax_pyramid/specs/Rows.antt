@@ -1,5 +1,5 @@
 -- Rows of times over a grid, with the roots of an octree.
-use Rattle.std.specs.Prelude.{ℕ, List, [], slice_index, slice_index_or}
+use Rattle.std.specs.Prelude.{ℕ, List, [], slice_index_or}
 use Rattle.node_boxes.specs.declared.node_box.NodeBox.{NodeBox}
 use Rattle.node_boxes.specs.Grid.{GridSize}
 use Rattle.minmax_pyramid.specs.Spans.{time_in}

@@ -67,7 +67,9 @@ pub(crate) fn cell_span(grid: &Grid, times: &[u32], area: &NodeBox, cell: &Cell)
     match cell {
         Cell::One => box_span(grid, times, area),
         Cell::Split {
-            least, greatest, ..
+            least,
+            greatest,
+            ..
         } => (*least, *greatest),
     }
 }
@@ -80,7 +82,11 @@ pub(crate) fn kid_of(cell: &Cell, place: usize) -> &Cell
     let Cell::Split { kids, .. } = cell else {
         return cell;
     };
-    if place < kids.len() { &kids[place] } else { cell }
+    if place < kids.len() {
+        &kids[place]
+    } else {
+        cell
+    }
 }
 
 /// The least and the greatest time of the nodes of a box.

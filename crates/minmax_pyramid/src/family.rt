@@ -69,7 +69,11 @@ impl Family {
     {
         let place = guess(&self.parent, area);
         let child = self.children().get(place)?;
-        if *child == *area && place < 8 { Some(place) } else { None }
+        if *child == *area && place < 8 {
+            Some(place)
+        } else {
+            None
+        }
     }
 
     /// The number of the root above the family.
@@ -166,10 +170,14 @@ fn step(parent: &NodeBox, area: &NodeBox) -> Option<(usize, NodeBox)>
 fn guess(parent: &NodeBox, area: &NodeBox) -> usize {
     let mut place = usize::from(is_upper(parent.x0, parent.x1, area.x0));
     if 1 < parent.y1.wrapping_sub(parent.y0) {
-        place = place.wrapping_mul(2).wrapping_add(usize::from(is_upper(parent.y0, parent.y1, area.y0)));
+        place = place
+            .wrapping_mul(2)
+            .wrapping_add(usize::from(is_upper(parent.y0, parent.y1, area.y0)));
     }
     if 1 < parent.z1.wrapping_sub(parent.z0) {
-        place = place.wrapping_mul(2).wrapping_add(usize::from(is_upper(parent.z0, parent.z1, area.z0)));
+        place = place
+            .wrapping_mul(2)
+            .wrapping_add(usize::from(is_upper(parent.z0, parent.z1, area.z0)));
     }
     place
 }

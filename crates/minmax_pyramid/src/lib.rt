@@ -8,11 +8,16 @@
 mod cell;
 mod descent;
 mod family;
+mod laws;
 mod pyramid;
 mod pyramid_rows;
 mod root_counts;
 
 pub use cell::Cell;
 pub use family::Family;
+pub use laws::{family_law, span_law};
 pub use pyramid::Pyramid;
 pub use pyramid_rows::PyramidRows;
+
+#[cfg(test)]
+mod tests;

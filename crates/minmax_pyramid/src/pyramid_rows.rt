@@ -115,7 +115,13 @@ impl PyramidRows {
     {
         let place = root_with(&self.roots, self.counts.guess(&self.grid, area), area)?;
         let row = &self.rows[row];
-        span_below(&self.grid, &row.times, &self.roots[place], &row.cells[place], area)
+        span_below(
+            &self.grid,
+            &row.times,
+            &self.roots[place],
+            &row.cells[place],
+            area,
+        )
     }
 
     /// The family that a box belongs to, with the way down to it. `None` only where it isn't found, as
@@ -136,7 +142,14 @@ impl PyramidRows {
     {
         let row = &self.rows[row];
         let cell = go_down(&row.cells[family.root()], family.places());
-        fill_spans(&self.grid, &row.times, &family.parent(), family.children(), cell, spans);
+        fill_spans(
+            &self.grid,
+            &row.times,
+            &family.parent(),
+            family.children(),
+            cell,
+            spans,
+        );
     }
 }
 

@@ -34,7 +34,10 @@ impl RootCounts {
         let x = part_with(area.x0, grid.x(), self.x);
         let y = part_with(area.y0, grid.y(), self.y);
         let z = part_with(area.z0, grid.z(), self.z);
-        x.wrapping_mul(self.y).wrapping_add(y).wrapping_mul(self.z).wrapping_add(z)
+        x.wrapping_mul(self.y)
+            .wrapping_add(y)
+            .wrapping_mul(self.z)
+            .wrapping_add(z)
     }
 }
 

@@ -1,6 +1,5 @@
-use Rattle.std.proofs.Common.{◌≡◌, ◌<◌, All, length, map, min, max}
+use Rattle.std.proofs.Common.{length}
 use Rattle.minmax_pyramid.specs.Spans.{time_in}
-use Rattle.minmax_pyramid.specs.Inside.Joins.{lowest, highest}
 use Rattle.minmax_pyramid.proofs.JoinSteps.{IsJoining}
 use Rattle.minmax_pyramid.proofs.cell.box_span.Given as goal
 

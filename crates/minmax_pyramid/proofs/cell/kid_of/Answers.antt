@@ -1,5 +1,4 @@
-use Rattle.std.proofs.Common.{◌≡◌, arith, subst, sym, ◌∙◌, ap}
-use Rattle.minmax_pyramid.specs.Inside.Cells.{IsCell}
+use Rattle.std.proofs.Common.{arith}
 use Rattle.minmax_pyramid.proofs.CellSteps.{one_kid, split_kid, split_within}
 use Rattle.minmax_pyramid.proofs.cell.kid_of.Goals as goal
 

@@ -1,4 +1,4 @@
-use Rattle.std.proofs.Common.{◌≡◌, ◌∙◌, ap, sym, subst, refl, arith, ◌<◌, List, length, get_or}
+use Rattle.std.proofs.Common.{◌≡◌, ap, sym, subst, arith, List, length, get_or}
 use Rattle.std.proofs.lemmas.List.{get_or_default}
 use Rattle.node_boxes.specs.declared.node_box.NodeBox.{NodeBox}
 use Rattle.node_boxes.specs.Boxes.{IsIn}
@@ -18,10 +18,15 @@ index-requires c =
     let rows = ap (λ (v : RowTimes). length v.rows) c.self.view_is in
     let view = ap (λ (v : RowTimes). length v.roots) c.self.view_is in
     let is = row_read c.self.inside.grid roots c.self.inside.rows.items c.args.row row c.self.invariant
-      (omega (arith, rows)) c.index-row.ensures in
+    (omega (arith, rows)) c.index-row.ensures in
     let ok = row.cells.ok in
-    omega (arith, view, c.root.ensures, c.requires.family.below,
-      zip_length (IsCell c.self.inside.grid (time_in row.times.items)) roots row.cells.items is.cells)
+    omega (
+      arith,
+      view,
+      c.root.ensures,
+      c.requires.family.below,
+      zip_length (IsCell c.self.inside.grid (time_in row.times.items)) roots row.cells.items is.cells,
+    )
 
 pub fill_spans-requires-clause-inside : goal.fill_spans-requires-clause-inside
 fill_spans-requires-clause-inside c =
@@ -32,9 +37,9 @@ fill_spans-requires-clause-inside c =
     let is = subst P (sym view) c.requires.family in
     let root = get_or roots family.root no_box in
     let inside = all_read (IsIn c.self.inside.grid) roots family.root root
-      c.self.invariant.roots_are.inside is.below (sym (get_or_default roots family.root root no_box is.below)) in
+    c.self.invariant.roots_are.inside is.below (sym (get_or_default roots family.root root no_box is.below)) in
     subst (IsIn c.self.inside.grid) (sym c.parent.ensures.value)
-      (way_inside c.self.inside.grid root family.places family.parent inside (is.down no_box))
+    (way_inside c.self.inside.grid root family.places family.parent inside (is.down no_box))
 
 pub fill_spans-requires-clause-cell : goal.fill_spans-requires-clause-cell
 fill_spans-requires-clause-cell c =
@@ -49,9 +54,9 @@ fill_spans-requires-clause-cell c =
     let is = subst P (sym view) c.requires.family in
     let root = get_or roots family.root no_box in
     let row_is = row_read g roots c.self.inside.rows.items c.args.row row c.self.invariant
-      (omega (arith, rows)) c.index-row.ensures in
+    (omega (arith, rows)) c.index-row.ensures in
     let cell = cell_read g roots row family.root root c.index.result.now row_is is.below
-      (sym (get_or_default roots family.root root no_box is.below)) in
+    (sym (get_or_default roots family.root root no_box is.below)) in
     let top : IsCell g time root c.index.result.now = rw (c.index.ensures, c.root.ensures) cell.1 in
     let way : IsWay root c.places.result.now family.parent = rw c.places.ensures (is.down no_box) in
     rw (c.deref.ensures.value, c.parent.ensures.value) (c.go_down-cell.ensures g time root family.parent way top)

@@ -1,4 +1,4 @@
-use Rattle.std.proofs.Common.{◌≡◌, ap, sym, subst, arith, List}
+use Rattle.std.proofs.Common.{sym, subst, arith, List}
 use Rattle.std.specs.List.{AllByRecursion}
 use Rattle.node_boxes.specs.declared.node_box.NodeBox.{NodeBox}
 use Rattle.node_boxes.specs.Boxes.{IsIn, IsNonempty}
@@ -14,5 +14,5 @@ pub find_family-requires-clause-some : goal.find_family-requires-clause-some
 find_family-requires-clause-some c =
     let P : List NodeBox → Type 0 = λ xs. AllByRecursion IsNonempty xs in
     subst P (sym c.deref-2.ensures.value)
-      (all-weaker (IsIn c.self.inside.grid) IsNonempty (in_nonempty c.self.inside.grid) c.self.inside.roots.items
-        c.self.invariant.roots_are.inside)
+    (all-weaker (IsIn c.self.inside.grid) IsNonempty (in_nonempty c.self.inside.grid) c.self.inside.roots.items
+    c.self.invariant.roots_are.inside)
