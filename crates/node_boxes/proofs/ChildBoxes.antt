@@ -1,15 +1,15 @@
 -- The children of a box: 2 to 8, in the box, each smaller, and each node of the box in exactly one.
-use Rattle.std.proofs.Common.{◌≡◌, ◌⊎◌, inl, inr, ℕ, ◌+◌, ◌-◌, ◌*◌, ◌/◌, ◌<◌, ◌≤◌, arith, List, [], ◌∷◌, length, map, refl, ap, sym, ◌∙◌, Bool, true, false, cond, nat_le, sum_by, ◌==◌, ◌&&◌}
-use Rattle.std.specs.List.{flat_map, AllByRecursion}
+use Rattle.std.proofs.Common.{◌≡◌, ◌⊎◌, inl, inr, ℕ, ◌+◌, ◌-◌, ◌*◌, ◌/◌, ◌<◌, ◌≤◌, arith, [], ◌∷◌, length, refl, sym, ◌∙◌, Bool, true, false, cond, nat_le, sum_by}
+use Rattle.std.specs.List.{AllByRecursion}
 use Rattle.std.proofs.lemmas.Nat.{mul-le}
-use Rattle.std.proofs.lemmas.Bool.{leb-true, leb-false, cases_Bool}
+use Rattle.std.proofs.lemmas.Bool.{leb-false}
 use Rattle.std.proofs.lemmas.Bool.Decides.{nat_tests}
 use Rattle.node_boxes.specs.declared.node_box.NodeBox.{NodeBox}
 use Rattle.node_boxes.specs.Boxes.{IsNonempty, IsPartOf, IsSplittable, contains, is_single, node_count_of}
-use Rattle.node_boxes.specs.BoxLists.{box_of, boxes_of}
+use Rattle.node_boxes.specs.BoxLists.{boxes_of}
 use Rattle.node_boxes.specs.Children.{children_of, halves}
 use Rattle.node_boxes.specs.Roots.{holders}
-use Rattle.node_boxes.proofs.Lists.{all-map, all-flat_map, all-weaker, sum_by-same, each_less}
+use Rattle.node_boxes.proofs.Lists.{all-weaker, sum_by-same, each_less}
 use Rattle.node_boxes.proofs.BoxPlaces.{length-boxes_of}
 use Rattle.node_boxes.proofs.RootBoxes.{all_boxes}
 use Rattle.node_boxes.proofs.Partition.{sum_boxes, sum_halves, places, places-adds, at, at-adds, contains-at, weigh}

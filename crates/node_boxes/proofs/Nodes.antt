@@ -1,8 +1,7 @@
 -- The nodes of a box: in order, below the nodes of the grid, those that the box holds, as many as its places.
-use Rattle.std.proofs.Common.{◌≡◌, ◌⊎◌, inl, inr, ℕ, zero, suc, ◌+◌, ◌-◌, ◌*◌, ◌<◌, ◌≤◌, arith, List, [], ◌∷◌, ◌++◌, length, refl, ap, sym, ◌∙◌, subst, Bool, true, false, cond, filter, sum_by, All, AllPairs, Contains, get_or}
-use Rattle.std.specs.List.{flat_map, range_with_len, AllByRecursion}
-use Rattle.std.proofs.lemmas.List.Concat.{length-flat_map}
-use Rattle.std.proofs.lemmas.List.Elements.{All-filter, filter_passes, All-get_or, All-from_get_or, Contains-get_or}
+use Rattle.std.proofs.Common.{◌≡◌, inl, inr, ℕ, zero, suc, ◌-◌, ◌*◌, ◌<◌, arith, List, [], ◌∷◌, length, ap, ◌∙◌, Bool, true, false, cond, filter, All, AllPairs, Contains, get_or}
+use Rattle.std.specs.List.{range_with_len}
+use Rattle.std.proofs.lemmas.List.Elements.{All-filter, filter_passes, All-from_get_or}
 use Rattle.std.proofs.lemmas.List.FromFn.{length-range_with_len, get_or-range_with_len}
 use Rattle.std.proofs.lemmas.List.Kept.{AllPairs-filter}
 use Rattle.node_boxes.specs.declared.node_box.NodeBox.{NodeBox}
@@ -10,7 +9,7 @@ use Rattle.node_boxes.specs.Grid.{GridSize, node_count}
 use Rattle.node_boxes.specs.GridOrder.{all_nodes}
 use Rattle.node_boxes.specs.Boxes.{IsIn, holds, node_count_of}
 use Rattle.node_boxes.specs.BoxNodes.{box_nodes}
-use Rattle.node_boxes.specs.Inside.BoxWalks.{run_of, runs_from, layers_from}
+use Rattle.node_boxes.specs.Inside.BoxWalks.{run_of, runs_from}
 use Rattle.node_boxes.proofs.Lists.{length-even, first_or_rest}
 use Rattle.node_boxes.proofs.Walks.{box_nodes-layers}
 

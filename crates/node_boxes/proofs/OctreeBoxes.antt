@@ -1,11 +1,11 @@
 -- Octree boxes lie in the grid, and the boxes of an octree cover hold each node once.
-use Rattle.std.proofs.Common.{◌≡◌, ℕ, ◌+◌, ◌*◌, ◌<◌, ◌≤◌, arith, List, [], ◌∷◌, ◌++◌, length, refl, ap, sym, ◌∙◌, Bool, true, false, cond, sum_by, Contains}
+use Rattle.std.proofs.Common.{◌≡◌, ℕ, ◌+◌, ◌≤◌, arith, List, ◌++◌, length, refl, ap, sym, ◌∙◌, cond, sum_by, Contains}
 use Rattle.std.specs.List.{AllByRecursion}
 use Rattle.std.proofs.lemmas.List.Sums.{sum_by-cons, sum_by-append}
 use Rattle.node_boxes.specs.declared.node_box.NodeBox.{NodeBox}
 use Rattle.node_boxes.specs.Grid.{GridSize, node_count}
 use Rattle.node_boxes.specs.GridOrder.{IsInside}
-use Rattle.node_boxes.specs.Boxes.{IsIn, IsNonempty, IsPartOf, contains, is_single, node_count_of}
+use Rattle.node_boxes.specs.Boxes.{IsIn, IsNonempty, IsPartOf, contains, node_count_of}
 use Rattle.node_boxes.specs.Children.{children_of}
 use Rattle.node_boxes.specs.Roots.{AreRoots, holders}
 use Rattle.node_boxes.specs.Octree.{IsOctreeBox, Root, Child, IsOctreeCover, Done, Keep, Open}

@@ -1,13 +1,12 @@
 -- Numbers that add up along a range add up over the boxes that ranges make.
-use Rattle.std.proofs.Common.{◌≡◌, ℕ, zero, suc, ◌+◌, ◌-◌, ◌*◌, ◌/◌, ◌<◌, ◌≤◌, arith, List, [], ◌∷◌, length, map, refl, ap, sym, ◌∙◌, Bool, true, false, cond, nat_le, nat_lt, ◌&&◌, sum_by, add-one, subst}
+use Rattle.std.proofs.Common.{◌≡◌, ℕ, zero, suc, ◌+◌, ◌-◌, ◌*◌, ◌/◌, ◌≤◌, arith, List, [], ◌∷◌, map, ap, ◌∙◌, Bool, true, false, cond, nat_le, nat_lt, ◌&&◌, sum_by, add-one, subst}
 use Rattle.std.specs.List.{flat_map, range_with_len}
 use Rattle.std.proofs.Math.Nat.{zero-div, div-mul-le_self, mul-div_cancel_left}
 use Rattle.std.proofs.lemmas.Nat.{le-div}
-use Rattle.std.proofs.lemmas.Bool.{cases_lt}
 use Rattle.std.proofs.lemmas.Bool.Decides.{nat_tests}
 use Rattle.std.proofs.lemmas.List.FromFn.{sum_by-map-range_with_len_more}
 use Rattle.node_boxes.specs.declared.node_box.NodeBox.{NodeBox}
-use Rattle.node_boxes.specs.Boxes.{contains, node_count_of}
+use Rattle.node_boxes.specs.Boxes.{contains}
 use Rattle.node_boxes.specs.BoxLists.{box_of, boxes_of}
 use Rattle.node_boxes.specs.Children.{halves}
 use Rattle.node_boxes.specs.Roots.{part, parts}

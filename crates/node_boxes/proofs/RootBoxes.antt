@@ -1,5 +1,5 @@
 -- The roots of a grid lie in it and hold each node once.
-use Rattle.std.proofs.Common.{◌≡◌, ℕ, ◌+◌, ◌-◌, ◌*◌, ◌/◌, ◌<◌, ◌≤◌, arith, List, length, map, min, max, refl, ap, sym, ◌∙◌, cond, sum_by}
+use Rattle.std.proofs.Common.{◌≡◌, ℕ, ◌+◌, ◌*◌, ◌/◌, ◌<◌, ◌≤◌, arith, List, length, map, refl, ◌∙◌, cond, sum_by}
 use Rattle.std.specs.List.{flat_map, range_with_len, AllByRecursion}
 use Rattle.std.proofs.Math.Nat.{mul-div_cancel_left, div-mul-le_self}
 use Rattle.std.proofs.lemmas.Nat.{le-div, mul-le}

@@ -1,12 +1,11 @@
 -- The nodes of a box are the runs of its places, and a walk goes through them in order.
-use Rattle.std.proofs.Common.{◌≡◌, ◌⊎◌, inl, inr, ℕ, zero, suc, ◌+◌, ◌-◌, ◌*◌, ◌<◌, ◌≤◌, arith, List, [], ◌∷◌, ◌++◌, length, map, refl, ap, sym, ◌∙◌, subst, Bool, true, false, cond, filter, nat_le, nat_lt, ◌&&◌, append_assoc, append-nil, add-zero, add-one}
+use Rattle.std.proofs.Common.{◌≡◌, ◌⊎◌, inl, inr, ℕ, zero, suc, ◌+◌, ◌-◌, ◌*◌, ◌<◌, ◌≤◌, arith, List, [], ◌∷◌, ◌++◌, refl, ap, sym, ◌∙◌, Bool, true, false, cond, filter, append-nil, add-zero}
 use Rattle.std.specs.List.{flat_map, range_with_len}
-use Rattle.std.proofs.lemmas.Bool.{cases_lt}
 use Rattle.std.proofs.lemmas.Bool.Decides.{nat_tests}
 use Rattle.std.proofs.lemmas.List.Concat.{flat_map-append}
 use Rattle.node_boxes.specs.declared.node_box.NodeBox.{NodeBox}
-use Rattle.node_boxes.specs.Grid.{GridSize, IsGrid, node_count}
-use Rattle.node_boxes.specs.GridOrder.{IsInside, all_nodes, node_number, place_of}
+use Rattle.node_boxes.specs.Grid.{GridSize, node_count}
+use Rattle.node_boxes.specs.GridOrder.{IsInside, all_nodes, node_number}
 use Rattle.node_boxes.specs.Boxes.{IsIn, contains, holds}
 use Rattle.node_boxes.specs.BoxNodes.{box_nodes}
 use Rattle.node_boxes.specs.Inside.BoxWalks.{run_of, runs_from, layers_from, nodes_left}

@@ -111,7 +111,9 @@ fn axis_part(axis: AxisParts, k: u32) -> (u32, u32)
 mod tests {
     use super::*;
 
-    fn area(x0: u32, x1: u32, y0: u32, y1: u32, z0: u32, z1: u32) -> NodeBox {
+    fn area(x0: u32, x1: u32, y0: u32, y1: u32, z0: u32, z1: u32) -> NodeBox
+        ensures { result ≡ box_of (x0, x1) (y0, y1) (z0, z1) }
+    {
         NodeBox {
             x0,
             x1,
@@ -128,10 +130,10 @@ mod tests {
             assert!(rt; false);
             return;
         };
-        let roots = roots(rt.alloc(), &grid, 2, 9, 0).unwrap();
+        let roots = roots(rt.alloc(), &grid, 2, 9, 0).expect(&rt, "memory");
         assert_eq!(rt; roots.len(), 6);
-        assert_eq!(rt; roots[0], area(0, 2, 0, 1, 0, 1));
-        assert_eq!(rt; roots[5], area(2, 5, 2, 3, 0, 1));
+        assert_eq!(rt; roots.get(0).copied(), Some(area(0, 2, 0, 1, 0, 1)));
+        assert_eq!(rt; roots.get(5).copied(), Some(area(2, 5, 2, 3, 0, 1)));
     }
 
     #[test]

@@ -1,4 +1,4 @@
-use Rattle.std.proofs.Common.{◌≡◌, ◌∙◌, ap, ℕ, [], ◌∷◌, ◌++◌}
+use Rattle.std.proofs.Common.{◌∙◌, ap, ℕ, [], ◌∷◌, ◌++◌}
 use Rattle.node_boxes.specs.BoxLists.{box_of}
 use Rattle.node_boxes.specs.Roots.{part}
 use Rattle.node_boxes.proofs.BoxPlaces.{row_more}

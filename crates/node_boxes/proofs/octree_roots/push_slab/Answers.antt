@@ -1,4 +1,4 @@
-use Rattle.std.proofs.Common.{◌≡◌, ◌∙◌, ap, ℕ, ◌++◌, map}
+use Rattle.std.proofs.Common.{◌∙◌, ap, ℕ, ◌++◌, map}
 use Rattle.node_boxes.specs.BoxLists.{box_of}
 use Rattle.node_boxes.specs.Roots.{part, parts}
 use Rattle.node_boxes.proofs.BoxPlaces.{part_more}

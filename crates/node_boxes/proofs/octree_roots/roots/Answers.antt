@@ -1,7 +1,7 @@
-use Rattle.std.proofs.Common.{◌≡◌, ◌∙◌, ap, ℕ, [], ◌++◌, map, arith}
+use Rattle.std.proofs.Common.{◌∙◌, ap, ℕ, [], ◌++◌, map, arith}
 use Rattle.std.specs.List.{flat_map}
 use Rattle.node_boxes.specs.BoxLists.{box_of}
-use Rattle.node_boxes.specs.Roots.{AreRoots, part, parts, roots_of}
+use Rattle.node_boxes.specs.Roots.{part, parts}
 use Rattle.node_boxes.proofs.BoxPlaces.{part_more}
 use Rattle.node_boxes.proofs.RootBoxes.{roots_whole, are_roots}
 use Rattle.node_boxes.proofs.octree_roots.roots.Goals as goal

@@ -1,4 +1,4 @@
-use Rattle.std.proofs.Common.{◌≡◌, ◌∙◌, ap, sym, arith, List, slice_get}
+use Rattle.std.proofs.Common.{◌∙◌, ap, sym, arith, List, slice_get}
 use Rattle.node_boxes.specs.declared.node_box.NodeBox.{NodeBox}
 use Rattle.node_boxes.specs.Children.{children_of, halves}
 use Rattle.node_boxes.proofs.BoxPlaces.{at_some, at_none}

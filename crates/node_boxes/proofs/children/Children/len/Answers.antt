@@ -1,4 +1,4 @@
-use Rattle.std.proofs.Common.{◌≡◌, ◌∙◌, ap, ◌*◌, length, arith}
+use Rattle.std.proofs.Common.{◌∙◌, ap, length, arith}
 use Rattle.node_boxes.specs.Children.{children_of, halves}
 use Rattle.node_boxes.proofs.BoxPlaces.{length-boxes_of}
 use Rattle.node_boxes.proofs.children.Children.len.Goals as goal

@@ -1,0 +1,11 @@
+pub use Rattle.node_boxes.specs.Grid
+pub use Rattle.node_boxes.specs.GridOrder
+pub use Rattle.node_boxes.specs.Boxes
+pub use Rattle.node_boxes.specs.Children
+pub use Rattle.node_boxes.specs.Roots
+pub use Rattle.node_boxes.specs.Octree
+pub use Rattle.node_boxes.specs.BoxNodes
+pub mod Spans
+pub mod Families
+pub mod Rows
+pub mod Inside

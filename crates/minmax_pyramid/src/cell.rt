@@ -1,0 +1,121 @@
+ghost use Rattle.std.specs.Prelude.{◌≡◌, ℕ, ◌-◌, ◌≤◌, length, nat_le, slice_get, Some, IfOk};
+ghost use Rattle.node_boxes.specs.declared.node_box.NodeBox.{NodeBox};
+ghost use Rattle.node_boxes.specs.Grid.{GridSize, node_count};
+ghost use Rattle.node_boxes.specs.Boxes.{IsIn, IsNonempty};
+ghost use Rattle.node_boxes.specs.Children.{children_of};
+ghost use Rattle.minmax_pyramid.specs.Spans.{time_in};
+ghost use Rattle.minmax_pyramid.specs.Inside.Joins.{reach_of};
+ghost use Rattle.minmax_pyramid.specs.Inside.Cells.{IsCell, is_small};
+
+use node_boxes::{BoxNodes, Grid, NodeBox};
+use std::alloc::{AllocError, Global};
+
+/// The octree of one row of times below a box: nothing for a box of at most four nodes on each axis,
+/// else the least and the greatest time of its nodes and the cells of its children, in their order.
+#[derive(Drop)]
+pub enum Cell {
+    One,
+    Split {
+        least: u32,
+        greatest: u32,
+        kids: Vec<Box<Cell>>,
+    },
+}
+
+/// The cell of a box in the grid. Want of memory is the only refusal.
+pub(crate) fn build_cell(
+    alloc: Global,
+    grid: &Grid,
+    times: &[u32],
+    area: &NodeBox,
+) -> Result<Cell, AllocError>
+    requires times { length times.now ≡ node_count grid.now }
+    requires inside { IsIn grid.now area.now }
+    ensures { IfOk result (IsCell grid.now (time_in times.now) area.now) }
+{
+    if is_small(area) {
+        return Ok(Cell::One);
+    }
+    let children = area.children();
+    let mut kids = Vec::with_capacity(alloc, children.len())?;
+    let mut least: u32 = u32::MAX;
+    let mut greatest: u32 = 0;
+    for place in 0..children.len() {
+        let Some(child) = children.get(place) else {
+            break;
+        };
+        let kid = build_cell(alloc, grid, times, &child)?;
+        let (low, high) = cell_span(grid, times, &child, &kid);
+        least = least.min(low);
+        greatest = greatest.max(high);
+        kids.push(Box::new(alloc, kid)?)?;
+    }
+    Ok(Cell::Split {
+        least,
+        greatest,
+        kids,
+    })
+}
+
+/// The least and the greatest time of the nodes of a box with this cell.
+pub(crate) fn cell_span(grid: &Grid, times: &[u32], area: &NodeBox, cell: &Cell) -> (u32, u32)
+    requires times { length times.now ≡ node_count grid.now }
+    requires inside { IsIn grid.now area.now }
+    requires cell { IsCell grid.now (time_in times.now) area.now cell.now }
+    ensures { result ≡ reach_of grid.now (time_in times.now) area.now }
+{
+    match cell {
+        Cell::One => box_span(grid, times, area),
+        Cell::Split {
+            least,
+            greatest,
+            ..
+        } => (*least, *greatest),
+    }
+}
+
+/// The cell of the child at a place. That of a small box stands for its children too.
+pub(crate) fn kid_of(cell: &Cell, place: usize) -> &Cell
+    ensures { (g : GridSize) (time : ℕ → ℕ) (a c : NodeBox) → IsNonempty a
+        → slice_get (children_of a) place ≡ Some c → IsCell g time a cell.now → IsCell g time c result.now }
+{
+    let Cell::Split { kids, .. } = cell else {
+        return cell;
+    };
+    if place < kids.len() {
+        &kids[place]
+    } else {
+        cell
+    }
+}
+
+/// The least and the greatest time of the nodes of a box.
+fn box_span(grid: &Grid, times: &[u32], area: &NodeBox) -> (u32, u32)
+    requires times { length times.now ≡ node_count grid.now }
+    requires inside { IsIn grid.now area.now }
+    ensures { result ≡ reach_of grid.now (time_in times.now) area.now }
+{
+    let mut nodes = BoxNodes::new(grid, area);
+    let mut least: u32 = u32::MAX;
+    let mut greatest: u32 = 0;
+    while let Some(node) = nodes.next() {
+        let time = times[node as usize];
+        least = least.min(time);
+        greatest = greatest.max(time);
+    }
+    (least, greatest)
+}
+
+/// Whether a box has at most four nodes on each axis.
+fn is_small(area: &NodeBox) -> bool
+    ensures { result ≡ is_small area.now }
+{
+    is_short(area.x0, area.x1) && is_short(area.y0, area.y1) && is_short(area.z0, area.z1)
+}
+
+/// Whether a range has at most four nodes.
+fn is_short(low: u32, high: u32) -> bool
+    ensures { result ≡ nat_le (high - low) 4 }
+{
+    high.saturating_sub(low) <= 4
+}
