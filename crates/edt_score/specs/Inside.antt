@@ -1,2 +1,9 @@
 -- Words for the crate's own parts, on which no public clause rests.
+pub mod BoxDomination
+pub mod Domination
+pub mod Ends
+pub mod Families
+pub mod KeptFamily
+pub mod Lanes
 pub mod Pairs
+pub mod UsedRows

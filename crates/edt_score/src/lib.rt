@@ -6,16 +6,25 @@
 //! the origin time of the event cancels. Scale, weight and kernel are this project's own.
 #![tactic(auto)]
 
+mod ends;
+mod family;
 mod field;
+mod judge;
+mod lanes;
 mod laws;
 mod pairs;
 mod problem;
-mod reduced_times;
+mod pyramid_judge;
 mod scorer;
 #[cfg(test)]
 mod tests;
+mod totals;
+mod used_rows;
+mod values;
 
 pub use field::Field;
-pub use laws::{best_law, score_law};
+pub use judge::Judge;
+pub use laws::{best_law, bound_law, box_bound_law, score_law};
 pub use problem::{Problem, ProblemPick};
+pub use pyramid_judge::PyramidJudge;
 pub use scorer::Scorer;
