@@ -1,0 +1,13 @@
+pub mod Choices
+pub mod Thresholds
+pub mod Covers
+pub mod FewestBoxes
+pub mod Scores
+pub mod Arenas
+pub mod Meetings
+pub mod Frontiers
+pub mod Goes
+pub mod Walking
+pub mod SortedNodes
+pub mod NearLists
+pub mod Findings

@@ -1,0 +1,8 @@
+use Rattle.octree_search.proofs.FewestBoxes.{shortest_cover, fewer_than_twice}
+use Rattle.octree_search.proofs.laws.cover_law.Goals as goal
+
+pub returns-clause-shortest : goal.returns-clause-shortest
+returns-clause-shortest c = shortest_cover
+
+pub returns-clause-met : goal.returns-clause-met
+returns-clause-met c = fewer_than_twice

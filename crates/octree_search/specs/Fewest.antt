@@ -1,0 +1,29 @@
+-- No octree cover of its kind has fewer boxes.
+use Rattle.std.specs.Prelude.{◌≡◌, ◌≤◌, ℕ, true, List, length, map, Contains}
+use Rattle.std.specs.List.{AllByRecursion}
+use Rattle.node_boxes.specs.declared.node_box.NodeBox.{NodeBox}
+use Rattle.node_boxes.specs.Boxes.{IsPartOf}
+use Rattle.node_boxes.specs.Octree.{IsOctreeCover}
+use Rattle.node_boxes.specs.declared.node_box.BoxBound.{BoxBound}
+use Rattle.octree_search.specs.declared.found.Found.{Found}
+use Rattle.octree_search.specs.declared.found.Found.TheVariants.{Located, NoFit, Budget, NearLimit}
+use Rattle.octree_search.specs.Cover.{stops}
+
+-- a box lies in one of the boxes
+abbrev pub IsPartOfOne : List NodeBox → NodeBox → Type 0
+IsPartOfOne boxes part = (whole : NodeBox) × Contains boxes whole × IsPartOf whole part
+
+-- the boxes are at most as many as those of any octree cover whose boxes are single or have a bound below the threshold, and each box of
+-- such a cover lies in one of them
+pub record IsShortest (roots : List NodeBox) (bound : NodeBox → ℕ) (t : ℕ) (boxes : List NodeBox) : Type 0 where
+  pub fewest : (other : List NodeBox) → IsOctreeCover roots other → AllByRecursion (λ a. stops bound t a ≡ true) other
+      → length boxes ≤ length other
+  pub within : (other : List NodeBox) → IsOctreeCover roots other → AllByRecursion (λ a. stops bound t a ≡ true) other
+      → AllByRecursion (IsPartOfOne boxes) other
+
+-- the cover of what was found, where there is one, is so
+abbrev pub IsCoverShortest : List NodeBox → (NodeBox → ℕ) → ℕ → Found → Type 0
+IsCoverShortest roots bound t (Located event) = IsShortest roots bound t (map (λ (b : BoxBound). b.area) event.cover.items)
+IsCoverShortest roots bound t (NoFit boxes met) = IsShortest roots bound t (map (λ (b : BoxBound). b.area) boxes.items)
+IsCoverShortest roots bound t Budget = Unit {0}
+IsCoverShortest roots bound t NearLimit = Unit {0}
