@@ -9,6 +9,8 @@ mod frontier;
 mod laws;
 mod queue;
 mod searching;
+#[cfg(test)]
+mod tests;
 mod near;
 mod nearness;
 
