@@ -42,8 +42,8 @@ pub record IsPrepared (control : ControlValues) (field : FieldTimes) (event : Pr
   pub case : IsCaseOf control field event.picks.used.items event.case
 
 -- so many events are assembled: the grid is the control's, and each event is prepared
-pub record IsAssembled (control : ControlValues) (count : ℕ) (assembly : Assembly) : Type 0 where
+pub record IsAssembled (control : ControlValues) (number : ℕ) (assembly : Assembly) : Type 0 where
   pub frame : assembly.frame ≡ control.frame
   pub grid : assembly.field.grid ≡ control.frame.grid
   pub events : All (IsPrepared control assembly.field) assembly.events.items
-  pub count : length assembly.events.items ≡ count
+  pub count : length assembly.events.items ≡ number

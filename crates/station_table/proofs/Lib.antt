@@ -1,3 +1,4 @@
+mod CountLaws
 mod DecideLaws
 mod DraftLaws
 mod KeyLaws
