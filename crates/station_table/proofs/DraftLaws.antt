@@ -1,5 +1,5 @@
 -- A draft that takes one more pick.
-use Rattle.std.proofs.Common.{◌≡◌, ℕ, Bool, List, [], ◌∷◌, ◌++◌, Some, None, sym, ap, ◌∙◌}
+use Rattle.std.proofs.Common.{◌≡◌, ℕ, Bool, List, [], ◌∷◌, ◌++◌, Some, None, sym, subst, ap, ◌∙◌}
 use Rattle.std.specs.Prelude.{unwrap_or}
 use Rattle.std.proofs.lemmas.List.{append-nil}
 use Rattle.control_reader.specs.ControlValues.{values_of}
@@ -18,6 +18,11 @@ use Rattle.station_table.proofs.UsingLaws.{used_push, skipped_push}
 pub follows_none : (rules : Rules) (met : List Bool) (picks : Picks) → Notes rules [] met → picks.used.items ≡ [] → picks.skipped.items ≡ [] → Follows rules [] met picks
 unfolding used_picks skipped_picks
 follows_none rules met picks notes used skipped = record { notes = notes; used = used; skipped = skipped }
+
+-- what holds of a pick holds of the same pick
+pub of_same : (rules : Rules) (before : List Pick) (pick other : Pick) (noted : List Bool) (new : Picks) → pick ≡ other
+    → Follows rules (before ++ pick ∷ []) noted new → Follows rules (before ++ other ∷ []) noted new
+of_same rules before pick other noted new same follows = subst (λ p. Follows rules (before ++ p ∷ []) noted new) same follows
 
 module _ (rules : Rules) (before : List Pick) (pick : Pick) (met noted : List Bool) (old new : Picks) (follows : Follows rules before met old) (notes : Notes rules (before ++ pick ∷ []) noted) where
   -- a pick that has no reason is put behind the used ones

@@ -8,4 +8,5 @@ mod MetLaws
 mod NameLaws
 mod ReasonLaws
 mod SeenLaws
+mod StampLaws
 mod UsingLaws

@@ -98,7 +98,7 @@ fn take_pick(
     requires pick { IsPick pick.now }
     requires key { HoldsKeyOf (values_of rules.now.control.now) rules.now.index pick.now }
     ensures one_each { length met.new ≡ length met.old }
-    ensures { OnOk result ((before : List Pick) → Follows rules.now before met.old picks.old → Follows rules.now (before ++ pick.now ∷ []) met.new picks.new) }
+    ensures picks { OnOk result ((before : List Pick) → Follows rules.now before met.old picks.old → Follows rules.now (before ++ pick.now ∷ []) met.new picks.new) }
 {
     let named = NamedPick::of(rules.control, pick);
     match decide(rules, met, &named, picks.used.len()) {
@@ -115,12 +115,7 @@ fn take_pick(
 }
 
 // The place of the key of a pick that is used, or the first reason why it isn't, where so many picks before it are used.
-fn decide(
-    rules: &Rules,
-    met: &mut MetKeys,
-    named: &NamedPick,
-    used: usize,
-) -> Result<usize, Reason>
+fn decide(rules: &Rules, met: &mut MetKeys, named: &NamedPick, used: usize) -> Result<usize, Reason>
     requires rules { AreRules rules.now }
     requires one_each { length met.old ≡ length rules.now.index }
     requires named { IsNamed (values_of rules.now.control.now) named.now }
@@ -133,15 +128,17 @@ fn decide(
     ensures within { IfOk result (λ place. place < length rules.now.index) }
     ensures good { IfOk result (λ _. reasons.early_reason (values_of rules.now.control.now) named.now.pick.now ≡ None) }
 {
-    if let Some(reason) = named.reason {
-        return Err(reason);
-    }
-    let key = KeyWords::for_phase(rules.control, named.station, named.phase);
-    let place = rules.index.place(&key);
-    let is_met = met.meet(place);
-    match late_reason(rules.control, is_met, &rules.places[place], used) {
+    match named.reason {
         Some(reason) => Err(reason),
-        None => Ok(place),
+        None => {
+            let key = KeyWords::for_phase(rules.control, named.station, named.phase);
+            let place = rules.index.place(&key);
+            let is_met = met.meet(place);
+            match late_reason(rules.control, is_met, &rules.places[place], used) {
+                Some(reason) => Err(reason),
+                None => Ok(place),
+            }
+        }
     }
 }
 

@@ -1,5 +1,5 @@
 //! For each key, whether a pick of an event was met that has it.
-ghost use Rattle.std.specs.Prelude.{◌≡◌, ◌<◌, true, false, replicate, length, get_or, slice_set, IfOk};
+ghost use Rattle.std.specs.Prelude.{◌≡◌, ◌≤◌, ◌<◌, true, false, replicate, length, get_or, slice_set, All, IfOk};
 
 use std::alloc::{AllocError, Global};
 use std::marker::Model;
@@ -39,11 +39,7 @@ impl MetKeys {
     pub fn forget(&mut self)
         ensures { self.new ≡ replicate (length self.old) false }
     {
-        if self.now == u32::MAX {
-            self.stamps.fill(0);
-            self.now = 0;
-        }
-        self.now += 1;
+        self.now = next_stamp(&mut self.stamps, self.now);
     }
 
     /// Notes the key at this place, and answers whether it was met before.
@@ -54,4 +50,17 @@ impl MetKeys {
     {
         mem::replace(&mut self.stamps[place], self.now) == self.now
     }
+}
+
+// A stamp past all that there are, which are set back where no number is left.
+fn next_stamp(stamps: &mut [u32], now: u32) -> u32
+    requires { All (λ stamp. stamp ≤ now) stamps.old }
+    ensures later { All (λ stamp. stamp < result) stamps.new }
+    ensures one_each { length stamps.new ≡ length stamps.old }
+{
+    if now == u32::MAX {
+        stamps.fill(0);
+        return 1;
+    }
+    now + 1
 }

@@ -11,6 +11,7 @@ use edt_text::Name;
 use phase_reader::Pick;
 
 /// A pick with its station and its standard phase, and why it needs no time grid, if it needs none.
+#[derive(Clone, Copy)]
 pub(crate) struct NamedPick<'a> {
     /// The pick.
     pub pick: &'a Pick,
