@@ -16,7 +16,7 @@ use Rattle.event_assembly.specs.declared.faults.AssembleFault.{AssembleFault}
 use Rattle.event_assembly.specs.declared.faults.AssembleFault.TheVariants.{Cells}
 use Rattle.event_assembly.specs.Answers.{IsTold}
 use Rattle.event_assembly.specs.Assembling.{first_fault, keys_at, rows_of, assemble_fault}
-use Rattle.event_assembly.specs.AssemblyValues.{EventValues, AssemblyValues, event_value, event_of, events_of, values_by, unless_fault, assembly_of, assembly_value}
+use Rattle.event_assembly.specs.AssemblyValues.{event_value, event_of, events_of, values_by, unless_fault, assembly_of, assembly_value}
 use Rattle.event_assembly.specs.Headers.{header_of, header_fault, place_of_file, places_of}
 use Rattle.event_assembly.specs.Names.{header_name}
 use Rattle.event_assembly.specs.Inside.Planning.{place_of_header, places_of_headers}

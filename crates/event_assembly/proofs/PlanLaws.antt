@@ -1,5 +1,5 @@
 -- What is settled before any body is read.
-use Rattle.std.proofs.Common.{◌≡◌, ℕ, zero, suc, ◌+◌, ◌<◌, ◌≤◌, ◌^◌, Bool, true, false, List, [], ◌∷◌, length, get_or, map, Option, Some, None, IfSome, inl, inr, refl, sym, ap, subst, ◌∙◌, arith, pos}
+use Rattle.std.proofs.Common.{◌≡◌, ℕ, zero, suc, ◌+◌, ◌<◌, ◌≤◌, Bool, true, false, List, [], ◌∷◌, length, get_or, map, Option, Some, None, IfSome, inl, inr, refl, sym, ap, subst, ◌∙◌, arith, pos}
 use Rattle.std.specs.Prelude.{All, ◌||◌, ◌==◌, nat_lt, int_lt, unwrap_or, is_none, count_by}
 use Rattle.std.specs.List.{AllPairs, list_any, slice_get, slice_index, range_with_len}
 use Rattle.std.proofs.lemmas.Bool.{cases_Bool, and_parts, or_parts, eqb-true, eq-eqb, ltb-false}
@@ -7,7 +7,6 @@ use Rattle.std.proofs.lemmas.List.{get_or-map, length-map}
 use Rattle.std.proofs.lemmas.List.Elements.{All-head, All-tail, All-map, All-filter, All-same, filter_agree, filter_passes}
 use Rattle.std.proofs.lemmas.List.FromFn.{length-range_with_len, get_or-range_with_len}
 use Rattle.std.proofs.lemmas.List.Folds.{Any-from_list_any, list_any_at, list_any_none}
-use Rattle.std.proofs.lemmas.Option.{same_Some}
 use Rattle.edt_score.specs.declared.problem.ProblemPick.{ProblemPick}
 use Rattle.edt_score.specs.Field.{FieldTimes}
 use Rattle.edt_score.specs.Problem.{IsValidPick, AreNear as are_near_picks}
@@ -27,8 +26,8 @@ use Rattle.event_assembly.specs.declared.assembly.Case.{Case}
 use Rattle.event_assembly.specs.declared.assembly.Case.TheVariants.{Ready, Few, Many}
 use Rattle.event_assembly.specs.declared.assembly.Prepared.{Prepared}
 use Rattle.event_assembly.specs.declared.rows.Rows.{Rows}
-use Rattle.event_assembly.specs.Assembled.{IsPrepared, IsCaseOf, HasTime, measures_of, problem_measures}
-use Rattle.event_assembly.specs.AssemblyValues.{EventCase, EventValues, case_value, event_value, case_of, event_of, Ready as ready_value, Few as few_value, Many as many_value}
+use Rattle.event_assembly.specs.Assembled.{IsPrepared, IsCaseOf, HasTime, problem_measures}
+use Rattle.event_assembly.specs.AssemblyValues.{EventValues, case_value, event_value, case_of, event_of, Ready as ready_value, Few as few_value, Many as many_value}
 use Rattle.event_assembly.specs.Answers.{has_no_grid, lacks_a_grid}
 use Rattle.event_assembly.specs.Cases.{is_s, is_few, is_many, is_ready}
 use Rattle.event_assembly.specs.Inside.Deciding.{AreDecided, AreUsed, AreNear}
