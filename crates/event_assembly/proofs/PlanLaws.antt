@@ -20,7 +20,7 @@ use Rattle.station_table.specs.declared.keys.Place.TheVariants.{Absent}
 use Rattle.station_table.specs.declared.picks.Picks.{Picks}
 use Rattle.station_table.specs.declared.picks.Skip.{Skip}
 use Rattle.station_table.specs.declared.picks.UsedPick.{UsedPick}
-use Rattle.station_table.specs.Limits.{HoldsKeysOf, IsPlace}
+use Rattle.station_table.specs.Limits.{AreNear, HoldsKeysOf, IsPlace}
 use Rattle.station_table.specs.Using.{is_absent, used_picks, skipped_picks}
 use Rattle.event_assembly.specs.declared.assembly.Case.{Case}
 use Rattle.event_assembly.specs.declared.assembly.Case.TheVariants.{Ready, Few, Many}
@@ -30,7 +30,7 @@ use Rattle.event_assembly.specs.Assembled.{IsPrepared, IsCaseOf, HasTime, proble
 use Rattle.event_assembly.specs.AssemblyValues.{EventValues, case_value, event_value, case_of, event_of, Ready as ready_value, Few as few_value, Many as many_value}
 use Rattle.event_assembly.specs.Answers.{has_no_grid, lacks_a_grid}
 use Rattle.event_assembly.specs.Cases.{is_s, is_few, is_many, is_ready}
-use Rattle.event_assembly.specs.Inside.Deciding.{AreDecided, AreUsed, AreNear}
+use Rattle.event_assembly.specs.Inside.Deciding.{AreDecided, AreUsed}
 use Rattle.event_assembly.specs.Inside.Numbering.{needs_key, has_key, marked_keys, AreNumbered}
 use Rattle.event_assembly.specs.Inside.Problems.{problem_pick, case_by, event_by}
 use Rattle.event_assembly.specs.Inside.Planning.{place_of_header, places_of_headers}

@@ -1,6 +1,11 @@
 -- Words on the answer of `assemble`.
-use Rattle.std.specs.Prelude.{◌≡◌, Bool, true, false, List, Result, Ok, Err, IsTrue}
+use Rattle.std.specs.Prelude.{◌≡◌, ℕ, Bool, true, false, List, [], Option, Some, IfSome, OnSome, Result, Ok, Err, IsTrue}
 use Rattle.std.specs.List.{list_any}
+use Rattle.edt_outside.specs.Shelves.{Files}
+use Rattle.control_reader.specs.ControlValues.{values_of}
+use Rattle.control_reader.specs.declared.control.Control.{Control}
+use Rattle.phase_reader.specs.PhaseFile.{picks_of_events}
+use Rattle.phase_reader.specs.declared.phases.Event.{Event}
 use Rattle.station_table.specs.declared.picks.Reason.{Reason}
 use Rattle.station_table.specs.declared.picks.Reason.TheVariants.{Excluded, Weight0, ErrMag, Duplicate, NoGrid, Far, BeyondMax}
 use Rattle.station_table.specs.declared.picks.Skip.{Skip}
@@ -10,7 +15,7 @@ use Rattle.event_assembly.specs.declared.assembly.Assembly.{Assembly}
 use Rattle.event_assembly.specs.declared.assembly.Prepared.{Prepared}
 use Rattle.event_assembly.specs.declared.faults.AssembleFault.{AssembleFault}
 use Rattle.event_assembly.specs.declared.faults.AssembleFault.TheVariants.{Absent, Failed, Header as faulty_header, HeaderLong, Body, Align, Cells, Memory}
-use Rattle.event_assembly.specs.AssemblyValues.{AssemblyValues, assembly_value}
+use Rattle.event_assembly.specs.AssemblyValues.{AssemblyValues, assembly_of, assembly_value}
 
 -- the fault is `Failed`
 abbrev pub is_failed : AssembleFault → Bool
@@ -59,6 +64,15 @@ IfToldFault holds Memory = Unit {0}
 abbrev pub IsTold : Result AssemblyValues AssembleFault → Result Assembly AssembleFault → Type 0
 IsTold made (Ok assembly) = made ≡ Ok (assembly_value assembly)
 IsTold made (Err fault) = IfToldFault (λ told. made ≡ Err told) fault
+
+-- an answer for events of a control is so, where the files are told
+abbrev pub IsToldBy : Option Files → Control → List Event → Result Assembly AssembleFault → Type 0
+IsToldBy told control events result =
+    IfSome told (λ files. IsTold (assembly_of files (values_of control) (picks_of_events events)) result)
+
+-- nothing is left, where nothing was left before and the files are told
+abbrev pub StaysEnded : Option Files → Option (List ℕ) → Option (List ℕ) → Type 0
+StaysEnded told before after = OnSome told (before ≡ Some [] → after ≡ Some [])
 
 -- the bytes of a body, and no call of the shelf, give this cause
 abbrev pub is_body_cause : GridFault → Bool

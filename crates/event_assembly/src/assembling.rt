@@ -1,13 +1,11 @@
 //! The assembly of events.
-ghost use Rattle.std.specs.Prelude.{◌≡◌, ◌≤◌, IfOk, IfErr, OnOk, OnSome, IfSome, IsTrue, All, Some, [], length};
+ghost use Rattle.std.specs.Prelude.{◌≡◌, ◌≤◌, IfOk, IfErr, OnOk, IsTrue, All, length};
 ghost use Rattle.edt_outside.specs.Counts.{Rose, RisesExactly};
 ghost use Rattle.control_reader.specs.Limits.{IsControl};
 ghost use Rattle.control_reader.specs.ControlValues.{values_of};
 ghost use Rattle.phase_reader.specs.Limits.{IsEvent};
-ghost use Rattle.phase_reader.specs.PhaseFile.{picks_of_events};
-ghost use Rattle.event_assembly.specs.Answers.{IsTold, HasBodyCause, assemble_failed, assemble_absent, lacks_a_grid};
+ghost use Rattle.event_assembly.specs.Answers.{IsToldBy, HasBodyCause, StaysEnded, assemble_failed, assemble_absent, lacks_a_grid};
 ghost use Rattle.event_assembly.specs.Assembled.{IsAssembled};
-ghost use Rattle.event_assembly.specs.AssemblyValues.{assembly_of};
 
 use crate::assembly::Assembly;
 use crate::bodies::read_rows;
@@ -40,11 +38,11 @@ pub fn assemble<S: Shelf>(
     requires events { All IsEvent events.now }
     requires few { length events.now ≤ 10000 }
     // What it answers is what the files make of the events, and an assembly holds together whatever the files are.
-    ensures told { IfSome (S.files shelf.old) (λ files. IsTold (assembly_of files (values_of control.now) (picks_of_events events.now)) result) }
+    ensures told { IsToldBy (S.files shelf.old) control.now events.now result }
     ensures assembled { IfOk result (IsAssembled (values_of control.now) (length events.now)) }
     ensures cause { IfErr result HasBodyCause }
     // What becomes of the shelf.
-    ensures ended { OnOk result (OnSome (S.files shelf.old) (S.left shelf.old ≡ Some [] → S.left shelf.new ≡ Some [])) }
+    ensures ended { OnOk result (StaysEnded (S.files shelf.old) (S.left shelf.old) (S.left shelf.new)) }
     ensures same_files { S.files shelf.new ≡ S.files shelf.old }
     ensures faults { RisesExactly (assemble_failed result) (S.faults shelf.old) (S.faults shelf.new) }
     ensures misses { RisesExactly (assemble_absent result) (S.misses shelf.old) (S.misses shelf.new) }

@@ -7,7 +7,7 @@ ghost use Rattle.node_boxes.specs.Grid.{node_count};
 ghost use Rattle.control_reader.specs.Limits.{IsControl};
 ghost use Rattle.control_reader.specs.ControlValues.{values_of};
 ghost use Rattle.station_table.specs.Limits.{IsKey};
-ghost use Rattle.event_assembly.specs.Answers.{HasBodyCause, assemble_failed, assemble_absent};
+ghost use Rattle.event_assembly.specs.Answers.{HasBodyCause, StaysEnded, assemble_failed, assemble_absent};
 ghost use Rattle.event_assembly.specs.Assembling.{keys_at};
 ghost use Rattle.event_assembly.specs.Names.{body_name};
 ghost use Rattle.event_assembly.specs.Rows.{byte_order, by_ratio, times_for};
@@ -51,7 +51,7 @@ pub(crate) fn read_rows<S: Shelf>(
     ensures grid { IfOk result (λ field. field.grid ≡ control.now.frame.grid) }
     ensures one_each { IfOk result (λ field. length field.rows ≡ length rows.now) }
     ensures cause { IfErr result HasBodyCause }
-    ensures ended { OnOk result (OnSome (S.files shelf.old) (S.left shelf.old ≡ Some [] → S.left shelf.new ≡ Some [])) }
+    ensures ended { OnOk result (StaysEnded (S.files shelf.old) (S.left shelf.old) (S.left shelf.new)) }
     ensures same_files { S.files shelf.new ≡ S.files shelf.old }
     ensures faults { RisesExactly (assemble_failed result) (S.faults shelf.old) (S.faults shelf.new) }
     ensures misses { RisesExactly (assemble_absent result) (S.misses shelf.old) (S.misses shelf.new) }

@@ -6,7 +6,7 @@ ghost use Rattle.edt_outside.specs.Counts.{Rose, RisesExactly};
 ghost use Rattle.grid_header.specs.Reading.{IsValidHeader};
 ghost use Rattle.control_reader.specs.ControlValues.{values_of};
 ghost use Rattle.station_table.specs.Limits.{IsKey};
-ghost use Rattle.event_assembly.specs.Answers.{HasBodyCause, assemble_failed, assemble_absent};
+ghost use Rattle.event_assembly.specs.Answers.{HasBodyCause, StaysEnded, assemble_failed, assemble_absent};
 ghost use Rattle.event_assembly.specs.Inside.Reads.{ReadsPresent, ReadsHeader, ReadsHeaders};
 
 use crate::faults::AssembleFault;
@@ -34,7 +34,7 @@ pub(crate) fn read_headers<S: Shelf>(
     ensures one_each { IfOk result (λ headers. length headers.items ≡ length keys.now) }
     ensures valid { IfOk result (λ headers. All (λ header. IfSome header IsValidHeader) headers.items) }
     ensures cause { IfErr result HasBodyCause }
-    ensures ended { OnOk result (OnSome (S.files shelf.old) (S.left shelf.old ≡ Some [] → S.left shelf.new ≡ Some [])) }
+    ensures ended { OnOk result (StaysEnded (S.files shelf.old) (S.left shelf.old) (S.left shelf.new)) }
     ensures same_files { S.files shelf.new ≡ S.files shelf.old }
     ensures faults { RisesExactly (assemble_failed result) (S.faults shelf.old) (S.faults shelf.new) }
     ensures misses { RisesExactly (assemble_absent result) (S.misses shelf.old) (S.misses shelf.new) }
@@ -62,7 +62,7 @@ fn read_key_header<S: Shelf>(
     ensures told { IfSome (S.files shelf.old) (λ files. ReadsHeader files (values_of control.now) key.now result) }
     ensures valid { IfOk result (λ header. IfSome header IsValidHeader) }
     ensures cause { IfErr result HasBodyCause }
-    ensures ended { OnOk result (OnSome (S.files shelf.old) (S.left shelf.old ≡ Some [] → S.left shelf.new ≡ Some [])) }
+    ensures ended { OnOk result (StaysEnded (S.files shelf.old) (S.left shelf.old) (S.left shelf.new)) }
     ensures same_files { S.files shelf.new ≡ S.files shelf.old }
     ensures faults { RisesExactly (assemble_failed result) (S.faults shelf.old) (S.faults shelf.new) }
     ensures misses { RisesExactly (assemble_absent result) (S.misses shelf.old) (S.misses shelf.new) }

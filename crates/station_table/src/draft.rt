@@ -1,17 +1,15 @@
 //! The picks of an event, decided one after the other.
-ghost use Rattle.std.specs.Prelude.{◌≡◌, ◌≤◌, ◌<◌, ◌^◌, ◌+◌, ◌*◌, ◌-ℤ◌, ◌++◌, ◌∷◌, [], false, min, pos, int_lt, List, All, length, replicate, unsigned_abs, Some, None, IsTrue, IfOk, OnOk};
+ghost use Rattle.std.specs.Prelude.{◌≡◌, ◌≤◌, ◌<◌, ◌^◌, ◌+◌, ◌*◌, false, min, pos, int_lt, All, length, replicate, unsigned_abs, None, IsTrue, IfOk, OnOk};
 ghost use Rattle.std.specs.List.{AllPairs};
 ghost use Rattle.std.specs.Result.{result_err};
 ghost use Rattle.control_reader.specs.ControlValues.{values_of};
 ghost use Rattle.control_reader.specs.Limits.{IsControl};
-ghost use Rattle.phase_reader.specs.declared.phases.Pick.{Pick};
 ghost use Rattle.phase_reader.specs.Limits.{IsEvent, IsPick};
-ghost use Rattle.station_table.specs.Inside.Drafts.{AreRules, Notes, Follows};
-ghost use Rattle.station_table.specs.Inside.Named.{IsNamed};
-ghost use Rattle.station_table.specs.Keys.{key_of, key_place};
-ghost use Rattle.station_table.specs.Limits.{HoldsKeyOf, HoldsKeysOf, IsPlace, IsUsedPick, KeysDiffer};
-ghost use Rattle.station_table.specs.Reasons as reasons;
-ghost use Rattle.station_table.specs.Using.{reason_of, used_picks, used_pick_at, ArePicksOf};
+ghost use Rattle.station_table.specs.Inside.Drafts.{rules_control, AreRules, AreDrafted, NotesMore, FollowsMore, HasReason, HasPlace};
+ghost use Rattle.station_table.specs.Inside.Named.{IsNamed, skip_of};
+ghost use Rattle.station_table.specs.Limits.{AreNear, HoldsKeyOf, HoldsKeysOf, IsPlace, IsUsedPick, KeysDiffer};
+ghost use Rattle.station_table.specs.Reasons.{early_reason};
+ghost use Rattle.station_table.specs.Using.{used_pick_at};
 
 use crate::key_index::KeyIndex;
 use crate::key_words::KeyWords;
@@ -69,9 +67,9 @@ pub(crate) fn draft_picks(
     requires rules { AreRules rules.now }
     requires met { met.old ≡ replicate (length rules.now.index) false }
     requires event { IsEvent event.now }
-    requires holds { HoldsKeysOf (values_of rules.now.control.now) rules.now.index event.now.picks.items }
-    ensures value { IfOk result (ArePicksOf (values_of rules.now.control.now) rules.now.index rules.now.places.now event.now.picks.items) }
-    ensures near { IfOk result (λ picks. AllPairs (λ a b. unsigned_abs (a.time -ℤ b.time) ≤ 2200000000000) picks.used.items) }
+    requires holds { HoldsKeysOf (rules_control rules.now) rules.now.index event.now.picks.items }
+    ensures value { IfOk result (AreDrafted rules.now event.now.picks.items) }
+    ensures near { IfOk result (λ picks. AllPairs AreNear picks.used.items) }
     ensures limits { IfOk result (λ picks. All (IsUsedPick (length rules.now.index)) picks.used.items) }
     ensures one_each { length met.new ≡ length met.old }
 {
@@ -96,9 +94,9 @@ fn take_pick(
     requires rules { AreRules rules.now }
     requires one_each { length met.old ≡ length rules.now.index }
     requires pick { IsPick pick.now }
-    requires key { HoldsKeyOf (values_of rules.now.control.now) rules.now.index pick.now }
+    requires key { HoldsKeyOf (rules_control rules.now) rules.now.index pick.now }
     ensures one_each { length met.new ≡ length met.old }
-    ensures picks { OnOk result ((before : List Pick) → Follows rules.now before met.old picks.old → Follows rules.now (before ++ pick.now ∷ []) met.new picks.new) }
+    ensures picks { OnOk result (FollowsMore rules.now pick.now (met.old, picks.old) (met.new, picks.new)) }
 {
     let named = NamedPick::of(rules.control, pick);
     match decide(rules, met, &named, picks.used.len()) {
@@ -118,15 +116,14 @@ fn take_pick(
 fn decide(rules: &Rules, met: &mut MetKeys, named: &NamedPick, used: usize) -> Result<usize, Reason>
     requires rules { AreRules rules.now }
     requires one_each { length met.old ≡ length rules.now.index }
-    requires named { IsNamed (values_of rules.now.control.now) named.now }
-    requires key { HoldsKeyOf (values_of rules.now.control.now) rules.now.index named.now.pick.now }
-    ensures notes { (before : List Pick) → Notes rules.now before met.old → Notes rules.now (before ++ named.now.pick.now ∷ []) met.new }
+    requires named { IsNamed (rules_control rules.now) named.now }
+    requires key { HoldsKeyOf (rules_control rules.now) rules.now.index named.now.pick.now }
+    ensures notes { NotesMore rules.now named.now.pick.now met.old met.new }
     ensures one_each { length met.new ≡ length met.old }
-    ensures reason { (before : List Pick) → Notes rules.now before met.old → used ≡ length (used_picks (values_of rules.now.control.now) rules.now.index rules.now.places.now before)
-        → result_err result ≡ reason_of (values_of rules.now.control.now) rules.now.index rules.now.places.now before named.now.pick.now }
-    ensures place { IfOk result (λ place. key_place rules.now.index (key_of (values_of rules.now.control.now) named.now.pick.now) ≡ Some place) }
+    ensures reason { HasReason rules.now named.now.pick.now met.old used (result_err result) }
+    ensures place { IfOk result (HasPlace rules.now named.now.pick.now) }
     ensures within { IfOk result (λ place. place < length rules.now.index) }
-    ensures good { IfOk result (λ _. reasons.early_reason (values_of rules.now.control.now) named.now.pick.now ≡ None) }
+    ensures good { IfOk result (λ _. early_reason (rules_control rules.now) named.now.pick.now ≡ None) }
 {
     match named.reason {
         Some(reason) => Err(reason),
@@ -152,7 +149,7 @@ fn used_pick(
     requires control { IsControl control.now }
     requires named { IsNamed (values_of control.now) named.now }
     requires pick { IsPick named.now.pick.now }
-    requires good { reasons.early_reason (values_of control.now) named.now.pick.now ≡ None }
+    requires good { early_reason (values_of control.now) named.now.pick.now ≡ None }
     requires place { place < 2 ^ 32 }
     ensures { IfOk result (λ used. used ≡ used_pick_at (values_of control.now) named.now.pick.now place) }
 {
@@ -171,7 +168,7 @@ fn used_pick(
 
 // A pick that isn't.
 fn skip(alloc: Global, named: &NamedPick, reason: Reason) -> Result<Skip, AllocError>
-    ensures { IfOk result (λ skip. skip ≡ record { line = named.now.pick.now.line; station = named.now.station.now; phase = named.now.phase.now; reason = reason }) }
+    ensures { IfOk result (λ skip. skip ≡ skip_of named.now reason) }
 {
     Ok(Skip {
         line: named.pick.line,

@@ -1,12 +1,11 @@
 //! The keys of a run, looked up by their names for one event after the other.
-ghost use Rattle.std.specs.Prelude.{◌≡◌, ◌≤◌, ◌<◌, ◌^◌, ◌-ℤ◌, unsigned_abs, IfOk, All, length};
+ghost use Rattle.std.specs.Prelude.{◌≡◌, ◌<◌, ◌^◌, IfOk, All, length};
 ghost use Rattle.std.specs.List.{AllPairs};
-ghost use Rattle.control_reader.specs.ControlValues.{values_of};
 ghost use Rattle.control_reader.specs.Limits.{IsControl};
 ghost use Rattle.phase_reader.specs.Limits.{IsEvent};
-ghost use Rattle.station_table.specs.KeyTables.{TableValues};
+ghost use Rattle.station_table.specs.KeyTables.{table_of};
 ghost use Rattle.station_table.specs.Using.{ArePicksOf};
-ghost use Rattle.station_table.specs.Limits.{HoldsKeysOf, IsPlace, IsUsedPick, KeysDiffer};
+ghost use Rattle.station_table.specs.Limits.{AreNear, HoldsKeysOf, IsPlace, IsUsedPick, KeysDiffer};
 
 use crate::draft::{Rules, draft_picks};
 use crate::keys::{GridKey, Place};
@@ -26,13 +25,12 @@ pub struct KeyTable<'a> {
 
 impl<'a> Model for KeyTable<'a> {
     ghost use Rattle.std.specs.Prelude.{◌≡◌, length};
-    ghost use Rattle.control_reader.specs.ControlValues.{values_of};
-    ghost use Rattle.station_table.specs.KeyTables.{TableValues};
+    ghost use Rattle.station_table.specs.KeyTables.{TableValues, table_of};
     ghost use Rattle.station_table.specs.Inside.Drafts.{AreRules};
 
     ghost Value = { TableValues };
 
-    ghost view = { λ table. record { control = values_of table.rules.control.now; keys = table.rules.index; places = table.rules.places.now } };
+    ghost view = { λ table. table_of table.rules.control.now table.rules.index table.rules.places.now };
 
     ghost invariant = { λ table. (AreRules table.rules) × (length table.met ≡ length table.rules.index) };
 }
@@ -52,7 +50,7 @@ impl<'a> KeyTable<'a> {
         requires few { length keys.now < 2 ^ 32 }
         requires differ { KeysDiffer keys.now }
         requires near { All IsPlace places.now }
-        ensures { IfOk result (λ table. table ≡ record { control = values_of control.now; keys = keys.now; places = places.now }) }
+        ensures { IfOk result (λ table. table ≡ table_of control.now keys.now places.now) }
     {
         let rules = Rules::new(alloc, control, keys, places)?;
         let met = MetKeys::new(alloc, keys.len())?;
@@ -66,7 +64,7 @@ impl<'a> KeyTable<'a> {
         requires event { IsEvent event.now }
         requires holds { HoldsKeysOf self.old.control self.old.keys event.now.picks.items }
         ensures value { IfOk result (ArePicksOf self.old.control self.old.keys self.old.places event.now.picks.items) }
-        ensures near { IfOk result (λ picks. AllPairs (λ a b. unsigned_abs (a.time -ℤ b.time) ≤ 2200000000000) picks.used.items) }
+        ensures near { IfOk result (λ picks. AllPairs AreNear picks.used.items) }
         ensures limits { IfOk result (λ picks. All (IsUsedPick (length self.old.keys)) picks.used.items) }
         ensures same { self.new ≡ self.old }
     {

@@ -1,11 +1,11 @@
 //! Which picks of an event are used.
-ghost use Rattle.std.specs.Prelude.{◌≤◌, ◌-ℤ◌, unsigned_abs, IfOk, All, length};
+ghost use Rattle.std.specs.Prelude.{IfOk, All, length};
 ghost use Rattle.std.specs.List.{AllPairs};
 ghost use Rattle.control_reader.specs.ControlValues.{values_of};
 ghost use Rattle.control_reader.specs.Limits.{IsControl};
 ghost use Rattle.phase_reader.specs.Limits.{IsEvent};
 ghost use Rattle.station_table.specs.Using.{ArePicksOf};
-ghost use Rattle.station_table.specs.Limits.{AreKeysOf, IsUsedPick};
+ghost use Rattle.station_table.specs.Limits.{AreKeysOf, AreNear, IsUsedPick};
 
 use crate::key_table::KeyTable;
 use crate::keys::{GridKey, Place};
@@ -35,7 +35,7 @@ pub fn use_picks(
     requires event { IsEvent event.now }
     requires keys { AreKeysOf (values_of control.now) keys.now places.now event.now.picks.items }
     ensures value { IfOk result (ArePicksOf (values_of control.now) keys.now places.now event.now.picks.items) }
-    ensures near { IfOk result (λ picks. AllPairs (λ a b. unsigned_abs (a.time -ℤ b.time) ≤ 2200000000000) picks.used.items) }
+    ensures near { IfOk result (λ picks. AllPairs AreNear picks.used.items) }
     ensures limits { IfOk result (λ picks. All (IsUsedPick (length keys.now)) picks.used.items) }
 {
     let mut table = KeyTable::new(alloc, control, keys, places)?;

@@ -1,5 +1,5 @@
 -- The picks of events, decided.
-use Rattle.std.specs.Prelude.{◌≡◌, ◌-ℤ◌, ◌≤◌, ℕ, List, length, map, All, unsigned_abs}
+use Rattle.std.specs.Prelude.{◌≡◌, ℕ, List, length, map, All}
 use Rattle.std.specs.List.{AllPairs}
 use Rattle.control_reader.specs.ControlValues.{ControlValues}
 use Rattle.phase_reader.specs.declared.phases.Pick.{Pick}
@@ -7,12 +7,8 @@ use Rattle.station_table.specs.declared.keys.GridKey.{GridKey}
 use Rattle.station_table.specs.declared.keys.Place.{Place}
 use Rattle.station_table.specs.declared.picks.Picks.{Picks}
 use Rattle.station_table.specs.declared.picks.UsedPick.{UsedPick}
-use Rattle.station_table.specs.Limits.{IsUsedPick}
+use Rattle.station_table.specs.Limits.{AreNear, IsUsedPick}
 use Rattle.station_table.specs.Using.{used_picks, skipped_picks}
-
--- the times of two used picks differ by at most 2,200,000,000,000 microseconds
-abbrev pub AreNear : UsedPick → UsedPick → Type 0
-AreNear a b = unsigned_abs (a.time -ℤ b.time) ≤ 2200000000000
 
 -- the used picks of an event are within their limits
 pub record AreUsed (keys : ℕ) (picks : Picks) : Type 0 where
