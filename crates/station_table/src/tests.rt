@@ -3,7 +3,7 @@ ghost use Rattle.std.specs.Prelude.{◌≡◌, ◌≤◌, ◌^◌, pos, unsigned
 ghost use Rattle.text_terms.specs.Names.{is_name};
 ghost use Rattle.control_reader.specs.Limits.{IsControl, IsDelay};
 ghost use Rattle.phase_reader.specs.Limits.{IsPick, IsEvent};
-ghost use Rattle.station_table.specs.Limits.{IsPlace};
+ghost use Rattle.station_table.specs.Limits.{HoldsKeysOf, IsPlace};
 
 use super::*;
 use control_reader::{Alias, Control, Delay, Exclude, PhaseId};
@@ -391,7 +391,20 @@ fn duplicates_look_back_at_wanted_picks(rt: HostRuntime) -> Result<(), Fail> {
     Ok(())
 }
 
-// What one table decides of the picks of events, one after the other. All sources are in the middle of the search grid.
+// What a table decides of the picks of events, one after the other.
+fn decided_by(alloc: Global, table: &mut KeyTable, events: &[Event]) -> Result<String, Fail>
+    requires events { All IsEvent events.now }
+    requires holds { All (λ event. HoldsKeysOf table.old.control table.old.keys event.picks.items) events.now }
+{
+    let mut text = String::new(alloc);
+    for event in events {
+        let picks = table.use_picks(alloc, event)?;
+        text.push_str(text_of(alloc, &picks)?.as_str())?;
+    }
+    Ok(text)
+}
+
+// What one table decides of events whose sources are all in the middle of the search grid.
 fn decided_in_turn(alloc: Global, control: &Control, events: &[Event]) -> Result<String, Fail>
     requires control { IsControl control.now }
     requires events { All IsEvent events.now }
@@ -402,12 +415,7 @@ fn decided_in_turn(alloc: Global, control: &Control, events: &[Event]) -> Result
     }
     let places = vec![in alloc; MIDDLE; keys.len()]?;
     let mut table = KeyTable::new(alloc, control, &keys, &places)?;
-    let mut text = String::new(alloc);
-    for event in events {
-        let picks = table.use_picks(alloc, event)?;
-        text.push_str(text_of(alloc, &picks)?.as_str())?;
-    }
-    Ok(text)
+    decided_by(alloc, &mut table, events)
 }
 
 #[test]
