@@ -9,9 +9,9 @@ use Rattle.phase_reader.specs.PhaseFile.{picks_of_events}
 use Rattle.station_table.specs.declared.keys.GridKey.{GridKey}
 use Rattle.station_table.specs.declared.keys.Place.{Place}
 use Rattle.station_table.specs.declared.picks.Picks.{Picks}
-use Rattle.station_table.specs.Limits.{IsUsedPick}
+use Rattle.station_table.specs.Limits.{AreNear, IsUsedPick}
 use Rattle.station_table.specs.Using.{ArePicksOf, used_picks, skipped_picks}
-use Rattle.event_assembly.specs.Inside.Deciding.{AreDecided, AreNear, AreUsed}
+use Rattle.event_assembly.specs.Inside.Deciding.{AreDecided, AreUsed}
 use Rattle.event_assembly.proofs.ListLaws.{map_push, take_item}
 
 -- one more thing is made of one more item

@@ -1,5 +1,5 @@
 -- The limits of what picks are decided by, and of what is decided.
-use Rattle.std.specs.Prelude.{◌≡◌, ℕ, ◌*◌, ◌^◌, ◌≤◌, ◌<◌, IsTrue, false, List, length, All, unsigned_abs}
+use Rattle.std.specs.Prelude.{◌≡◌, ℕ, ◌*◌, ◌^◌, ◌≤◌, ◌<◌, IsTrue, false, List, length, All, ◌-ℤ◌, unsigned_abs}
 use Rattle.std.specs.List.{AllPairs, list_any}
 use Rattle.text_terms.specs.Names.{is_name}
 use Rattle.control_reader.specs.ControlValues.{ControlValues}
@@ -35,12 +35,17 @@ pub record AreKeysOf (control : ControlValues) (keys : List GridKey) (places : L
   pub holds : HoldsKeysOf control keys event
   pub near : All IsPlace places
 
--- a used pick has a key among so many, a weight and a variance within their limits
+-- a used pick has a key among so many, and a time, a weight and a variance within their limits
 pub record IsUsedPick (keys : ℕ) (pick : UsedPick) : Type 0 where
   pub key : pick.key < keys
+  pub time : unsigned_abs pick.time ≤ 4 * 10 ^ 17
   pub some_weight : 1 ≤ pick.weight
   pub weight : pick.weight ≤ 2000
   pub variance : pick.variance ≤ 2 * 10 ^ 16
+
+-- the times of two used picks differ by at most 2,200,000,000,000 microseconds
+abbrev pub AreNear : UsedPick → UsedPick → Type 0
+AreNear a b = unsigned_abs (a.time -ℤ b.time) ≤ 2200000000000
 
 -- the words of a key are station and phase words
 pub record IsKey (key : GridKey) : Type 0 where

@@ -3,7 +3,7 @@ ghost use Rattle.std.specs.Prelude.{◌≡◌, ◌≤◌, ◌^◌, pos, unsigned
 ghost use Rattle.text_terms.specs.Names.{is_name};
 ghost use Rattle.control_reader.specs.Limits.{IsControl, IsDelay};
 ghost use Rattle.phase_reader.specs.Limits.{IsPick, IsEvent};
-ghost use Rattle.station_table.specs.Limits.{IsPlace};
+ghost use Rattle.station_table.specs.Limits.{HoldsKeysOf, IsPlace};
 
 use super::*;
 use control_reader::{Alias, Control, Delay, Exclude, PhaseId};
@@ -387,6 +387,49 @@ fn duplicates_look_back_at_wanted_picks(rt: HostRuntime) -> Result<(), Fail> {
     assert_eq!(rt;
         decided(alloc, &control, MIDDLE, &rows)?.as_str(),
         "2 A P 0 1000 0 0;4 A S 0 1000 0 1;6 B P 0 1000 0 2;1 A P Excluded;3 A P Duplicate;5 B P Weight0;7 X P NoGrid;8 X P Duplicate;"
+    );
+    Ok(())
+}
+
+// What a table decides of the picks of events, one after the other.
+fn decided_by(alloc: Global, table: &mut KeyTable, events: &[Event]) -> Result<String, Fail>
+    requires events { All IsEvent events.now }
+    requires holds { All (λ event. HoldsKeysOf table.old.control table.old.keys event.picks.items) events.now }
+{
+    let mut text = String::new(alloc);
+    for event in events {
+        let picks = table.use_picks(alloc, event)?;
+        text.push_str(text_of(alloc, &picks)?.as_str())?;
+    }
+    Ok(text)
+}
+
+// What one table decides of events whose sources are all in the middle of the search grid.
+fn decided_in_turn(alloc: Global, control: &Control, events: &[Event]) -> Result<String, Fail>
+    requires control { IsControl control.now }
+    requires events { All IsEvent events.now }
+{
+    let keys = wanted(alloc, control, events)?;
+    if keys.len() > 4096 {
+        return Err(Fail::from("many keys"));
+    }
+    let places = vec![in alloc; MIDDLE; keys.len()]?;
+    let mut table = KeyTable::new(alloc, control, &keys, &places)?;
+    decided_by(alloc, &mut table, events)
+}
+
+#[test]
+fn one_table_serves_events_that_share_no_duplicates(rt: HostRuntime) -> Result<(), Fail> {
+    let alloc = rt.alloc();
+    let mut control = plain_control(alloc)?;
+    control.reject_duplicates = true;
+    let first = event_of(alloc, &[usual("A", "P"), usual("B", "P"), usual("A", "P")])?;
+    let second = event_of(alloc, &[usual("A", "P"), usual("B", "S")])?;
+    let third = event_of(alloc, &[usual("B", "S"), usual("B", "P")])?;
+    let events = vec![in alloc; first, second, third]?;
+    assert_eq!(rt;
+        decided_in_turn(alloc, &control, &events)?.as_str(),
+        "1 A P 0 1000 0 0;2 B P 0 1000 0 1;3 A P Duplicate;1 A P 0 1000 0 0;2 B S 0 1000 0 2;1 B S 0 1000 0 2;2 B P 0 1000 0 1;"
     );
     Ok(())
 }
