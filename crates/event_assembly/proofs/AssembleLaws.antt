@@ -15,7 +15,7 @@ use Rattle.event_assembly.specs.declared.assembly.Assembly.{Assembly}
 use Rattle.event_assembly.specs.declared.faults.AssembleFault.{AssembleFault}
 use Rattle.event_assembly.specs.declared.faults.AssembleFault.TheVariants.{Cells}
 use Rattle.event_assembly.specs.Answers.{IsTold}
-use Rattle.event_assembly.specs.Assembling.{first_fault, keys_at, rows_of, assemble_fault}
+use Rattle.event_assembly.specs.Assembling.{first_fault, keys_at, rows_of, assemble_fault, roots_for}
 use Rattle.event_assembly.specs.AssemblyValues.{event_value, event_of, events_of, values_by, unless_fault, assembly_of, assembly_value}
 use Rattle.event_assembly.specs.Headers.{header_of, header_fault, place_of_file, places_of}
 use Rattle.event_assembly.specs.Names.{header_name}
@@ -127,15 +127,15 @@ pub assembled : (told now : Option Files) (control : ControlValues) (events : Li
     → IfSome told (λ files. IsSettled files control events keys rows)
     → past ≡ nat_lt 20000000 (length rows * node_count control.frame.grid) → past ≡ false
     → IfSome now (λ files. (first_fault (map (row_fault files control) (keys_at keys rows)) ≡ None)
-    × (assembly.field ≡ record { grid = control.frame.grid; rows = map (row_times files control) (keys_at keys rows) }))
+    × (assembly.field ≡ record { grid = control.frame.grid; roots = roots_for control; rows = map (row_times files control) (keys_at keys rows) }))
     → assembly.frame ≡ control.frame → map event_value assembly.events.items ≡ map (event_of control keys (places_of_headers headers) rows) events
     → IfSome told (λ files. IsTold (assembly_of files control events) (Ok assembly))
 unfolding assembly_of
 assembled None now control events keys headers rows past assembly same wanted read known test is made frame ready = tt
 assembled (Some files) now control events keys headers rows past assembly same wanted read known test is made frame ready =
     let here : (first_fault (map (row_fault files control) (keys_at keys rows)) ≡ None)
-    × (assembly.field ≡ record { grid = control.frame.grid; rows = map (row_times files control) (keys_at keys rows) }) = rw same at made in
-    let times : List GridKey → List ℕ → FieldTimes = λ ks rs. record { grid = control.frame.grid; rows = map (row_times files control) (keys_at ks rs) } in
+    × (assembly.field ≡ record { grid = control.frame.grid; roots = roots_for control; rows = map (row_times files control) (keys_at keys rows) }) = rw same at made in
+    let times : List GridKey → List ℕ → FieldTimes = λ ks rs. record { grid = control.frame.grid; roots = roots_for control; rows = map (row_times files control) (keys_at ks rs) } in
     let places : places_of_headers headers ≡ places_of files control keys = ap places_of_headers read.1 ∙ places_are files control keys in
     let none : assemble_fault files control events ≡ None = rows_fault files control events keys rows past known test is ∙ here.0 in
     let field = here.1 ∙ ap (times keys) (sym known.rows_are) ∙ ap (λ (ks : List GridKey). times ks (rows_of files control events)) wanted in

@@ -19,7 +19,7 @@ use Rattle.event_assembly.specs.Inside.Reads.{ReadsPresent, ReadsHeader, header_
 -- a header that was read is the header of its bytes
 pub header_of-read : (bytes : List ℕ) (header : Header) → IsReading bytes header → header ≡ header_of bytes
 unfolding header_of
-header_of-read bytes header read = rw (read.x, read.y, read.z, read.ox, read.oy, read.oz, read.dx, read.dy, read.dz, read.sx, read.sy, read.sz) refl
+header_of-read bytes header read = rw (read.fields.x, read.fields.y, read.fields.z, read.fields.ox, read.fields.oy, read.fields.oz, read.fields.dx, read.fields.dy, read.fields.dz, read.fields.sx, read.fields.sy, read.fields.sz) refl
 
 -- the answer for a file that was read whole
 pub present_read : (told : Option Files) (name text : List ℕ) (bytes : Vec ℕ) (header : Header) → text ≡ name

@@ -12,7 +12,7 @@ use Rattle.control_reader.specs.ControlValues.{ControlValues}
 use Rattle.station_table.specs.declared.keys.GridKey.{GridKey}
 use Rattle.event_assembly.specs.declared.faults.AssembleFault.{AssembleFault}
 use Rattle.event_assembly.specs.Inside.Reads.{IsRefusal}
-use Rattle.event_assembly.specs.Assembling.{keys_at}
+use Rattle.event_assembly.specs.Assembling.{keys_at, roots_for}
 use Rattle.event_assembly.specs.Headers.{header_of}
 use Rattle.event_assembly.specs.Names.{header_name, body_name}
 use Rattle.event_assembly.specs.Inside.Reads.{header_in, IsRowKey, ReadsRow, ReadsRows}
@@ -93,10 +93,10 @@ row_refused (Some first) (Some files) control keys headers k key header fault sa
 
 -- all rows were read
 pub rows_all : (told : Option Files) (control : ControlValues) (i : ℕ) (keys : List GridKey) (field : FieldTimes) → length keys ≤ i
-    → field.grid ≡ control.frame.grid
+    → field.grid ≡ control.frame.grid → field.roots ≡ roots_for control
     → IfSome told (λ files. AreMade (row_fault files control) (row_times files control) i keys field.rows)
     → IfSome told (λ files. ReadsRows files control keys (Ok field))
-rows_all None control i keys field all grid made = tt
-rows_all (Some files) control i keys field all grid made =
+rows_all None control i keys field all grid roots made = tt
+rows_all (Some files) control i keys field all grid roots made =
     let done = AreMade-all (Some files) (λ (f : Files). row_fault f control) (λ (f : Files). row_times f control) i keys field.rows all made in
-    (done.0, λ j. record { grid = grid j; rows = done.1 j })
+    (done.0, λ j. record { grid = grid j; roots = roots j; rows = done.1 j })

@@ -1,6 +1,8 @@
 -- The rows of events, their field, and the first fault of their assembly.
 use Rattle.std.specs.Prelude.{ℕ, List, [], ◌∷◌, ◌++◌, length, map, flat_map, Option, Some, None, slice_get}
 use Rattle.edt_outside.specs.Shelves.{Files}
+use Rattle.node_boxes.specs.declared.node_box.NodeBox.{NodeBox}
+use Rattle.node_boxes.specs.Roots.{roots_of}
 use Rattle.edt_score.specs.declared.problem.ProblemPick.{ProblemPick}
 use Rattle.edt_score.specs.Field.{FieldTimes}
 use Rattle.control_reader.specs.ControlValues.{ControlValues}
@@ -47,9 +49,14 @@ abbrev pub problem_picks : List ℕ → List UsedPick → List ProblemPick
 problem_picks rows used =
     map (λ (pick : UsedPick). record { time = pick.time; weight = pick.weight; variance = pick.variance; row = row_of_key rows pick.key }) used
 
+-- the roots of the octree over the search grid, by the counts of cells that the control asks for
+abbrev pub roots_for : ControlValues → List NodeBox
+roots_for control = roots_of control.frame.grid control.cells.0 control.cells.1 control.cells.2
+
 -- the field of the rows of events
 abbrev pub field_of : Files → ControlValues → List (List Pick) → FieldTimes
 field_of files control events = record {
   grid = control.frame.grid;
+  roots = roots_for control;
   rows = map (row_times files control) (keys_at (wanted_keys control events) (rows_of files control events));
 }

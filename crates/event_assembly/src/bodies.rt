@@ -8,7 +8,7 @@ ghost use Rattle.control_reader.specs.Limits.{IsControl};
 ghost use Rattle.control_reader.specs.ControlValues.{values_of};
 ghost use Rattle.station_table.specs.Limits.{IsKey};
 ghost use Rattle.event_assembly.specs.Answers.{HasBodyCause, StaysEnded, assemble_failed, assemble_absent};
-ghost use Rattle.event_assembly.specs.Assembling.{keys_at};
+ghost use Rattle.event_assembly.specs.Assembling.{keys_at, roots_for};
 ghost use Rattle.event_assembly.specs.Names.{body_name};
 ghost use Rattle.event_assembly.specs.Rows.{byte_order, by_ratio, times_for};
 ghost use Rattle.event_assembly.specs.Inside.Reads.{header_in, body_refusal, IsConvertible, HasHeader, IsRowKey, Converts, ReadsTimes, ReadsRow, ReadsRows};
@@ -20,6 +20,7 @@ use edt_outside::Shelf;
 use edt_score::Field;
 use edt_text::Name;
 use grid_header::Header;
+use node_boxes::roots;
 use station_table::GridKey;
 use std::alloc::Global;
 use time_grid::{ByteOrder, GridFault, StreamFault, stream_times};
@@ -49,6 +50,7 @@ pub(crate) fn read_rows<S: Shelf>(
     requires rows { All (IsRowKey keys.now headers.now) rows.now }
     ensures told { IfSome (S.files shelf.old) (λ files. ReadsRows files (values_of control.now) (keys_at keys.now rows.now) result) }
     ensures grid { IfOk result (λ field. field.grid ≡ control.now.frame.grid) }
+    ensures roots { IfOk result (λ field. field.roots ≡ roots_for (values_of control.now)) }
     ensures one_each { IfOk result (λ field. length field.rows ≡ length rows.now) }
     ensures cause { IfErr result HasBodyCause }
     ensures ended { OnOk result (StaysEnded (S.files shelf.old) (S.left shelf.old) (S.left shelf.new)) }
@@ -58,7 +60,9 @@ pub(crate) fn read_rows<S: Shelf>(
     ensures lacks { S.lacks shelf.new ≡ S.lacks shelf.old }
     ensures calls { S.calls shelf.old ≤ S.calls shelf.new }
 {
-    let mut field = Field::new(alloc, control.frame.grid)?;
+    let (x, y, z) = control.cells;
+    let roots = roots(alloc, &control.frame.grid, x, y, z)?;
+    let mut field = Field::new(alloc, control.frame.grid, roots)?;
     let mut buffer = vec![in alloc; 0; PIECE]?;
     for row in rows {
         let key = &keys[*row as usize];

@@ -28,14 +28,14 @@ opened met place first below = record {
 pub linked_more : (areas more : List NodeBox) (a : NodeBox) (first : ℕ) → IsLinked areas a first → IsLinked (areas ++ more) a first
 linked_more areas more a first linked = linked_more-by areas more (children_of a) first linked
   where
-  linked_more-by : (areas more children : List NodeBox) (first : ℕ) → take (length children) (drop first areas) ≡ children
-      → take (length children) (drop first (areas ++ more)) ≡ children
-  linked_more-by areas more [] first linked = refl
-  linked_more-by areas more (c ∷ children) first linked =
-      let many : length (take (length (c ∷ children)) (drop first areas)) ≡ length (c ∷ children) = ap length linked in
-      let there : length (c ∷ children) ≤ length (drop first areas) = omega (arith, many, length-take (length (c ∷ children)) (drop first areas)) in
-      let within : first ≤ length areas = omega (arith, there, length-drop first areas) in
-      rw (drop-append-le first areas more within, take-append-le (length (c ∷ children)) (drop first areas) more there) linked
+    linked_more-by : (areas more children : List NodeBox) (first : ℕ) → take (length children) (drop first areas) ≡ children
+        → take (length children) (drop first (areas ++ more)) ≡ children
+    linked_more-by areas more [] first linked = refl
+    linked_more-by areas more (c ∷ children) first linked =
+        let many : length (take (length (c ∷ children)) (drop first areas)) ≡ length (c ∷ children) = ap length linked in
+        let there : length (c ∷ children) ≤ length (drop first areas) = omega (arith, many, length-take (length (c ∷ children)) (drop first areas)) in
+        let within : first ≤ length areas = omega (arith, there, length-drop first areas) in
+        rw (drop-append-le first areas more within, take-append-le (length (c ∷ children)) (drop first areas) more there) linked
 
 -- the boxes of what was just met
 pub areas_fresh : (bound : NodeBox → ℕ) (areas : List NodeBox) → areas_met (map (fresh bound) areas) ≡ areas

@@ -56,13 +56,13 @@ module _ (bound : NodeBox → ℕ) (t : ℕ) where
       (λ a some open' all. rw (cover_open bound t a some open')
       (cover_parts-in a (children_of a) (children_parts a some) all))
     where
-    cover_parts-in : (a : NodeBox) (boxes : List NodeBox) → AllByRecursion (IsPartOf a) boxes
-        → AllByRecursion (λ c. AllByRecursion (IsPartOf c) (cover bound t c)) boxes → AllByRecursion (IsPartOf a) (flat_map (cover bound t) boxes)
-    cover_parts-in a [] parts all = tt
-    cover_parts-in a (c ∷ boxes) (part, parts) (here, all) =
-        all-append (IsPartOf a) (cover bound t c) (flat_map (cover bound t) boxes)
-        (all-weaker (IsPartOf c) (IsPartOf a) (λ b inner. part_of_part a c b part inner) (cover bound t c) here)
-        (cover_parts-in a boxes parts all)
+      cover_parts-in : (a : NodeBox) (boxes : List NodeBox) → AllByRecursion (IsPartOf a) boxes
+          → AllByRecursion (λ c. AllByRecursion (IsPartOf c) (cover bound t c)) boxes → AllByRecursion (IsPartOf a) (flat_map (cover bound t) boxes)
+      cover_parts-in a [] parts all = tt
+      cover_parts-in a (c ∷ boxes) (part, parts) (here, all) =
+          all-append (IsPartOf a) (cover bound t c) (flat_map (cover bound t) boxes)
+          (all-weaker (IsPartOf c) (IsPartOf a) (λ b inner. part_of_part a c b part inner) (cover bound t c) here)
+          (cover_parts-in a boxes parts all)
 
   -- no octree cover whose boxes aren't opened has fewer boxes
   pub fewest : (boxes leaves : List NodeBox) → IsOctreeCover boxes leaves → AllByRecursion IsNonempty boxes
@@ -76,7 +76,7 @@ module _ (bound : NodeBox → ℕ) (t : ℕ) where
       let less : length (flat_map (cover bound t) (children_of a ++ rest)) ≤ length others =
       fewest (children_of a ++ rest) others kept (all-append IsNonempty (children_of a) rest children some) all in
       let joined : length (flat_map (cover bound t) (children_of a ++ rest))
-          ≡ length (flat_map (cover bound t) (children_of a)) + length (flat_map (cover bound t) rest) =
+      ≡ length (flat_map (cover bound t) (children_of a)) + length (flat_map (cover bound t) rest) =
       ap length (flat_map-append (cover bound t) (children_of a) rest)
       ∙ length-append {A = NodeBox} (flat_map (cover bound t) (children_of a)) (flat_map (cover bound t) rest) in
       let parted : length (flat_map (cover bound t) (a ∷ rest)) ≡ length (cover bound t a) + length (flat_map (cover bound t) rest) =
@@ -87,7 +87,7 @@ module _ (bound : NodeBox → ℕ) (t : ℕ) where
       elim (by_test (stops bound t a)) [
         | inl stop ↦ let one : length (cover bound t a) ≡ 1 = rw (cover_stop bound t a stop) refl in omega (arith, less, joined, parted, many, two, one)
         | inr open' ↦ let same : length (cover bound t a) ≡ length (flat_map (cover bound t) (children_of a)) = ap length (cover_open bound t a here open') in
-          omega (arith, less, joined, parted, same)
+            omega (arith, less, joined, parted, same)
       ]
 
   -- boxes that lie in one of some boxes lie in one of more boxes
@@ -103,25 +103,29 @@ module _ (bound : NodeBox → ℕ) (t : ℕ) where
   one_above a rest part some (whole, at, inside) =
       elim (Contains-append_cases (flat_map (cover bound t) (children_of a)) (flat_map (cover bound t) rest) whole
       (subst (λ boxes. Contains boxes whole) (flat_map-append (cover bound t) (children_of a) rest) at)) [
-        | inl below' ↦ (a, (0, omega arith, refl), part_of_part a whole part
-          (all-contains (IsPartOf a) (flat_map (cover bound t) (children_of a)) whole (child_covers a some) below') inside)
+        | inl below' ↦ (
+          a,
+          (0, omega arith, refl),
+          part_of_part a whole part
+              (all-contains (IsPartOf a) (flat_map (cover bound t) (children_of a)) whole (child_covers a some) below') inside,
+        )
         | inr beside ↦ (whole, Contains-append_right (a ∷ []) (flat_map (cover bound t) rest) whole beside, inside)
       ]
     where
-    child_covers : (a : NodeBox) → IsNonempty a → AllByRecursion (IsPartOf a) (flat_map (cover bound t) (children_of a))
-    child_covers a some =
-        all-flat_map (IsPartOf a) (IsPartOf a) (cover bound t)
-        (λ c part. all-weaker (IsPartOf c) (IsPartOf a) (λ b inner. part_of_part a c b part inner) (cover bound t c) (cover_parts c part.nonempty))
-        (children_of a) (children_parts a some)
+      child_covers : (a : NodeBox) → IsNonempty a → AllByRecursion (IsPartOf a) (flat_map (cover bound t) (children_of a))
+      child_covers a some =
+          all-flat_map (IsPartOf a) (IsPartOf a) (cover bound t)
+          (λ c part. all-weaker (IsPartOf c) (IsPartOf a) (λ b inner. part_of_part a c b part inner) (cover bound t c) (cover_parts c part.nonempty))
+          (children_of a) (children_parts a some)
 
   pub within : (boxes leaves : List NodeBox) → IsOctreeCover boxes leaves → AllByRecursion IsNonempty boxes
       → AllByRecursion (λ a. stops bound t a ≡ true) leaves → AllByRecursion (IsPartOfOne (flat_map (cover bound t) boxes)) leaves
   within boxes leaves Done some all = tt
   within boxes leaves (Keep a rest others kept) (here, some) (stop, all) =
       subst (λ front. AllByRecursion (IsPartOfOne (front ++ flat_map (cover bound t) rest)) (a ∷ others)) (sym (cover_stop bound t a stop)) (
-      (a, (0, omega arith, refl), part_of_itself a here),
-      all-weaker (IsPartOfOne (flat_map (cover bound t) rest)) (IsPartOfOne (a ∷ flat_map (cover bound t) rest))
-          (λ part one. one_of_others (a ∷ []) (flat_map (cover bound t) rest) part one) others (within rest others kept some all),
+        (a, (0, omega arith, refl), part_of_itself a here),
+        all-weaker (IsPartOfOne (flat_map (cover bound t) rest)) (IsPartOfOne (a ∷ flat_map (cover bound t) rest))
+            (λ part one. one_of_others (a ∷ []) (flat_map (cover bound t) rest) part one) others (within rest others kept some all),
       )
   within boxes leaves (Open a rest others several kept) (here, some) all =
       let children : AllByRecursion IsNonempty (children_of a) =
@@ -130,10 +134,10 @@ module _ (bound : NodeBox → ℕ) (t : ℕ) where
       within (children_of a ++ rest) others kept (all-append IsNonempty (children_of a) rest children some) all in
       elim (by_test (stops bound t a)) [
         | inl stop ↦ subst (λ front. AllByRecursion (IsPartOfOne (front ++ flat_map (cover bound t) rest)) others) (sym (cover_stop bound t a stop))
-          (all-weaker (IsPartOfOne (flat_map (cover bound t) (children_of a ++ rest))) (IsPartOfOne (a ∷ flat_map (cover bound t) rest))
-          (λ part one. one_above a rest part here one) others inner)
+            (all-weaker (IsPartOfOne (flat_map (cover bound t) (children_of a ++ rest))) (IsPartOfOne (a ∷ flat_map (cover bound t) rest))
+            (λ part one. one_above a rest part here one) others inner)
         | inr open' ↦ subst (λ front. AllByRecursion (IsPartOfOne (front ++ flat_map (cover bound t) rest)) others) (sym (cover_open bound t a here open'))
-          (subst (λ boxes. AllByRecursion (IsPartOfOne boxes) others) (flat_map-append (cover bound t) (children_of a) rest) inner)
+            (subst (λ boxes. AllByRecursion (IsPartOfOne boxes) others) (flat_map-append (cover bound t) (children_of a) rest) inner)
       ]
 
   -- a cover of n nodes meets fewer than twice as many boxes
@@ -143,11 +147,11 @@ module _ (bound : NodeBox → ℕ) (t : ℕ) where
       (λ a some open' all. rw (below_open bound t a some open')
       (omega (arith, sum_twice (children_of a) all, children_nodes a some, (children_count a (splittable bound t a some open')).0)))
     where
-    sum_twice : (boxes : List NodeBox) → AllByRecursion (λ c. below bound t c + 2 ≤ 2 * node_count_of c) boxes
-        → sum_by (λ c. 1 + below bound t c) boxes + length boxes ≤ 2 * sum_by node_count_of boxes
-    sum_twice [] all = omega arith
-    sum_twice (c ∷ boxes) (here, all) =
-        omega (arith, here, sum_twice boxes all, sum_by-cons (λ c. 1 + below bound t c) c boxes, sum_by-cons node_count_of c boxes)
+      sum_twice : (boxes : List NodeBox) → AllByRecursion (λ c. below bound t c + 2 ≤ 2 * node_count_of c) boxes
+          → sum_by (λ c. 1 + below bound t c) boxes + length boxes ≤ 2 * sum_by node_count_of boxes
+      sum_twice [] all = omega arith
+      sum_twice (c ∷ boxes) (here, all) =
+          omega (arith, here, sum_twice boxes all, sum_by-cons (λ c. 1 + below bound t c) c boxes, sum_by-cons node_count_of c boxes)
 
   pub met_twice : (boxes : List NodeBox) → AllByRecursion IsNonempty boxes → boxes_met bound t boxes + length boxes ≤ 2 * sum_by node_count_of boxes
   met_twice [] some = omega arith

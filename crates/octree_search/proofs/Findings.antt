@@ -113,11 +113,11 @@ module _ (g : GridSize) (roots : List NodeBox) (bound : NodeBox → ℕ) (margin
       ∙ ap (λ n. unwrap_or (option_map (λ (e : ℕ × ℕ). e.0) (find (λ (e : ℕ × ℕ). e.1 == s) n)) 0) near_is
       ∙ ap (λ o. unwrap_or o 0) (first_near (judged_score g bound) s (event_threshold g bound margin) low (all_nodes (node_count g)))
     where
-    some_score : (n : ℕ) → (n ≡ 0 → ⊥) → 1 ≤ n
-    some_score n some = elim (by_test (n == 0)) [
-      | inl none ↦ absurd (some (grind (arith, nat_tests)))
-      | inr more ↦ grind (arith, nat_tests)
-    ]
+      some_score : (n : ℕ) → (n ≡ 0 → ⊥) → 1 ≤ n
+      some_score n some = elim (by_test (n == 0)) [
+        | inl none ↦ absurd (some (grind (arith, nat_tests)))
+        | inr more ↦ grind (arith, nat_tests)
+      ]
 
   -- the event is located
   pub found_located : (hyp : ℕ) (near : List (ℕ × ℕ)) (boxes : List BoxBound) (n : ℕ) → (best ≡ 0 → ⊥)

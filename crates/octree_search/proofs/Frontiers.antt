@@ -80,18 +80,18 @@ waits_queued roots margin bound areas (a ∷ cs) best from (tree, trees) within 
     ap (λ place. get_or areas place d) (sym here) ∙ there (suc j) d (omega (arith, below))) in
     elim (by_test (is_single a || nat_lt (bound a) (threshold_of margin best))) [
       | inl stop ↦ subst (λ front. AllByRecursion (IsQueued roots bound areas) (front ++ waits margin bound (best_with bound best a) (from + 1) cs))
-        (sym (wait_not margin bound best from a stop)) rest
+          (sym (wait_not margin bound best from a stop)) rest
       | inr go ↦ subst (λ front. AllByRecursion (IsQueued roots bound areas) (front ++ waits margin bound (best_with bound best a) (from + 1) cs))
-        (sym (wait_so margin bound best from a go)) (
-          record {
-            tree = tree;
-            bound_is = refl;
-            several = (neither (is_single a) (nat_lt (bound a) (threshold_of margin best)) go).0;
-            within = omega (arith, within);
-            there = λ d. let here : from ≡ from + 0 = omega arith in ap (λ place. get_or areas place d) here ∙ there 0 d (omega arith);
-          },
-          rest,
-        )
+          (sym (wait_so margin bound best from a go)) (
+            record {
+              tree = tree;
+              bound_is = refl;
+              several = (neither (is_single a) (nat_lt (bound a) (threshold_of margin best)) go).0;
+              within = omega (arith, within);
+              there = λ d. let here : from ≡ from + 0 = omega arith in ap (λ place. get_or areas place d) here ∙ there 0 d (omega arith);
+            },
+            rest,
+          )
     ]
 
 -- more boxes are met
@@ -113,54 +113,57 @@ frontier_more roots margin bound t met queue cs best trees low f = record {
       (recursion_from_All (IsQueued roots bound (areas_met (met ++ map (fresh bound) cs))) queue (λ k w below. old_queued w k below)));
 }
   where
-  after : (j : ℕ) (d : NodeBox) → j < length cs → get_or (areas_met met ++ cs) (length met + j) d ≡ get_or cs j d
-  after j d below =
-      let long : length (areas_met met) ≡ length met = length-map met (λ (m : Met). m.area) in
-      let left : length met + j - length (areas_met met) ≡ j = omega (arith, long) in
-      get_or-append_right (areas_met met) cs (length met + j) d (omega (arith, long)) ∙ ap (λ k. get_or cs k d) left
-  old_queued : (w : Waiting) (k : ℕ) → k < length queue → IsQueued roots bound (areas_met (met ++ map (fresh bound) cs)) (get_or queue k w)
-  old_queued w k below =
-      let was = f.queued k w below in
-      subst (λ areas. IsQueued roots bound areas (get_or queue k w)) (sym (areas_more bound met cs)) (record {
-        tree = was.tree;
-        bound_is = was.bound_is;
-        several = was.several;
-        within = omega (arith, was.within, length-append {A = NodeBox} (areas_met met) cs);
-        there = λ d. get_or_append_left (areas_met met) cs d (get_or queue k w).place was.within ∙ was.there d;
-      })
-  old_entry : (i : ℕ) (d : Met) → i < length met
-      → IsEntry roots bound t (areas_met (met ++ map (fresh bound) cs)) (waits margin bound best (length met) cs ++ queue) i (get_or (met ++ map (fresh bound) cs) i d)
-  old_entry i d old =
-      let was = f.entries i d old in
-      subst (IsEntry roots bound t (areas_met (met ++ map (fresh bound) cs)) (waits margin bound best (length met) cs ++ queue) i)
-      (sym (get_or_append_left met (map (fresh bound) cs) d i old)) (record {
-        tree = was.tree;
-        bound_is = was.bound_is;
-        state = state_map (get_or met i d).first_child _ _ _ _
-            (λ has open'. Contains-append_right (waits margin bound best (length met) cs) queue (waiting bound i (get_or met i d).area) (has open'))
-            (λ k linked. (linked.0, subst (λ areas. IsLinked areas (get_or met i d).area k) (sym (areas_more bound met cs)) (linked_more (areas_met met) cs (get_or met i d).area k linked.1)))
-            was.state;
-      })
-  new_entry : (i : ℕ) (d : Met) → length met ≤ i → i < length met + length cs
-      → IsEntry roots bound t (areas_met (met ++ map (fresh bound) cs)) (waits margin bound best (length met) cs ++ queue) i (get_or (met ++ map (fresh bound) cs) i d)
-  new_entry i d from below =
-      let j : ℕ = i - length met in
-      let within : j < length cs = omega (arith, from, below) in
-      let place : length met + j ≡ i = omega (arith, from) in
-      let is : get_or (met ++ map (fresh bound) cs) i d ≡ fresh bound (get_or cs j d.area) =
-      get_or-append_right met (map (fresh bound) cs) i d from ∙ fresh_at cs j d within in
-      subst (IsEntry roots bound t (areas_met (met ++ map (fresh bound) cs)) (waits margin bound best (length met) cs ++ queue) i) (sym is) (record {
-        tree = All-from_recursion (IsOctreeBox roots) cs trees j d.area within;
-        bound_is = refl;
-        state = λ open'. subst (λ k. Contains (waits margin bound best (length met) cs ++ queue) (waiting bound k (get_or cs j d.area))) place
-            (Contains-append_left (waits margin bound best (length met) cs) queue (waiting bound (length met + j) (get_or cs j d.area))
-            (waits_have margin bound t cs best (length met) j d.area within low open'));
-      })
-    where
-    fresh_at : (cs : List NodeBox) (j : ℕ) (d : Met) → j < length cs → get_or (map (fresh bound) cs) j d ≡ fresh bound (get_or cs j d.area)
-    fresh_at [] j d below = absurd (omega (arith, below))
-    fresh_at (c ∷ cs) zero d below = refl
-    fresh_at (c ∷ cs) (suc j) d below = fresh_at cs j d (omega (arith, below))
+    after : (j : ℕ) (d : NodeBox) → j < length cs → get_or (areas_met met ++ cs) (length met + j) d ≡ get_or cs j d
+    after j d below =
+        let long : length (areas_met met) ≡ length met = length-map met (λ (m : Met). m.area) in
+        let left : length met + j - length (areas_met met) ≡ j = omega (arith, long) in
+        get_or-append_right (areas_met met) cs (length met + j) d (omega (arith, long)) ∙ ap (λ k. get_or cs k d) left
+
+    old_queued : (w : Waiting) (k : ℕ) → k < length queue → IsQueued roots bound (areas_met (met ++ map (fresh bound) cs)) (get_or queue k w)
+    old_queued w k below =
+        let was = f.queued k w below in
+        subst (λ areas. IsQueued roots bound areas (get_or queue k w)) (sym (areas_more bound met cs)) (record {
+          tree = was.tree;
+          bound_is = was.bound_is;
+          several = was.several;
+          within = omega (arith, was.within, length-append {A = NodeBox} (areas_met met) cs);
+          there = λ d. get_or_append_left (areas_met met) cs d (get_or queue k w).place was.within ∙ was.there d;
+        })
+
+    old_entry : (i : ℕ) (d : Met) → i < length met
+        → IsEntry roots bound t (areas_met (met ++ map (fresh bound) cs)) (waits margin bound best (length met) cs ++ queue) i (get_or (met ++ map (fresh bound) cs) i d)
+    old_entry i d old =
+        let was = f.entries i d old in
+        subst (IsEntry roots bound t (areas_met (met ++ map (fresh bound) cs)) (waits margin bound best (length met) cs ++ queue) i)
+        (sym (get_or_append_left met (map (fresh bound) cs) d i old)) (record {
+          tree = was.tree;
+          bound_is = was.bound_is;
+          state = state_map (get_or met i d).first_child _ _ _ _
+              (λ has open'. Contains-append_right (waits margin bound best (length met) cs) queue (waiting bound i (get_or met i d).area) (has open'))
+              (λ k linked. (linked.0, subst (λ areas. IsLinked areas (get_or met i d).area k) (sym (areas_more bound met cs)) (linked_more (areas_met met) cs (get_or met i d).area k linked.1)))
+              was.state;
+        })
+
+    new_entry : (i : ℕ) (d : Met) → length met ≤ i → i < length met + length cs
+        → IsEntry roots bound t (areas_met (met ++ map (fresh bound) cs)) (waits margin bound best (length met) cs ++ queue) i (get_or (met ++ map (fresh bound) cs) i d)
+    new_entry i d from below =
+        let j : ℕ = i - length met in
+        let within : j < length cs = omega (arith, from, below) in
+        let place : length met + j ≡ i = omega (arith, from) in
+        let is : get_or (met ++ map (fresh bound) cs) i d ≡ fresh bound (get_or cs j d.area) =
+        get_or-append_right met (map (fresh bound) cs) i d from ∙ fresh_at cs j d within in
+        subst (IsEntry roots bound t (areas_met (met ++ map (fresh bound) cs)) (waits margin bound best (length met) cs ++ queue) i) (sym is) (record {
+          tree = All-from_recursion (IsOctreeBox roots) cs trees j d.area within;
+          bound_is = refl;
+          state = λ open'. subst (λ k. Contains (waits margin bound best (length met) cs ++ queue) (waiting bound k (get_or cs j d.area))) place
+              (Contains-append_left (waits margin bound best (length met) cs) queue (waiting bound (length met + j) (get_or cs j d.area))
+              (waits_have margin bound t cs best (length met) j d.area within low open'));
+        })
+      where
+        fresh_at : (cs : List NodeBox) (j : ℕ) (d : Met) → j < length cs → get_or (map (fresh bound) cs) j d ≡ fresh bound (get_or cs j d.area)
+        fresh_at [] j d below = absurd (omega (arith, below))
+        fresh_at (c ∷ cs) zero d below = refl
+        fresh_at (c ∷ cs) (suc j) d below = fresh_at cs j d (omega (arith, below))
 
 -- a box that waited is opened
 pub frontier_opened : (roots : List NodeBox) (bound : NodeBox → ℕ) (t : ℕ) (met : List Met) (top : Waiting) (queue : List Waiting) (first : ℕ) (new : List Met)
@@ -174,38 +177,39 @@ frontier_opened roots bound t met top queue first new f o open' linked = record 
   queued = λ k w below. subst (λ areas. IsQueued roots bound areas (get_or queue k w)) (sym o.same_areas) (f.queued (suc k) w (omega (arith, below)));
 }
   where
-  opened_entry : (i : ℕ) (d : Met) → i ≡ top.place → i < length met → IsEntry roots bound t (areas_met new) queue i (get_or new i d)
-  opened_entry i d here below =
-      let was = f.entries i d below in
-      let top_is = f.queued 0 top (omega arith) in
-      let area : (get_or met i d).area ≡ top.area =
-      area_at met i d below ∙ ap (λ k. get_or (areas_met met) k d.area) here ∙ top_is.there d.area in
-      let is : get_or new i d ≡ record (get_or met i d) { first_child = Some first } =
-      ap (λ k. get_or new k d) here ∙ o.here d ∙ ap (λ k. record (get_or met k d) { first_child = Some first }) (sym here) in
-      subst (IsEntry roots bound t (areas_met new) queue i) (sym is) (record {
-        tree = was.tree;
-        bound_is = was.bound_is;
-        state = (
-          subst (λ a. stops bound t a ≡ false) (sym area) open',
-          subst (λ a. IsLinked (areas_met new) a first) (sym area) (subst (λ areas. IsLinked areas top.area first) (sym o.same_areas) linked),
-        );
-      })
-    where
-    area_at : (met : List Met) (i : ℕ) (d : Met) → i < length met → (get_or met i d).area ≡ get_or (areas_met met) i d.area
-    area_at [] i d below = absurd (omega (arith, below))
-    area_at (m ∷ met) zero d below = refl
-    area_at (m ∷ met) (suc i) d below = area_at met i d (omega (arith, below))
-  other_entry : (i : ℕ) (d : Met) → i ≢ top.place → i < length met → IsEntry roots bound t (areas_met new) queue i (get_or new i d)
-  other_entry i d other below =
-      let was = f.entries i d below in
-      subst (IsEntry roots bound t (areas_met new) queue i) (sym (o.others i d other)) (record {
-        tree = was.tree;
-        bound_is = was.bound_is;
-        state = state_map (get_or met i d).first_child _ _ _ _
-            (λ has go. elim (first_or_rest top queue (waiting bound i (get_or met i d).area) (has go)) [
-              | inl same ↦ absurd (other (sym (ap (λ (w : Waiting). w.place) same)))
-              | inr rest ↦ rest
-            ])
-            (λ k linked'. (linked'.0, subst (λ areas. IsLinked areas (get_or met i d).area k) (sym o.same_areas) linked'.1))
-            was.state;
-      })
+    opened_entry : (i : ℕ) (d : Met) → i ≡ top.place → i < length met → IsEntry roots bound t (areas_met new) queue i (get_or new i d)
+    opened_entry i d here below =
+        let was = f.entries i d below in
+        let top_is = f.queued 0 top (omega arith) in
+        let area : (get_or met i d).area ≡ top.area =
+        area_at met i d below ∙ ap (λ k. get_or (areas_met met) k d.area) here ∙ top_is.there d.area in
+        let is : get_or new i d ≡ record (get_or met i d) { first_child = Some first } =
+        ap (λ k. get_or new k d) here ∙ o.here d ∙ ap (λ k. record (get_or met k d) { first_child = Some first }) (sym here) in
+        subst (IsEntry roots bound t (areas_met new) queue i) (sym is) (record {
+          tree = was.tree;
+          bound_is = was.bound_is;
+          state = (
+            subst (λ a. stops bound t a ≡ false) (sym area) open',
+            subst (λ a. IsLinked (areas_met new) a first) (sym area) (subst (λ areas. IsLinked areas top.area first) (sym o.same_areas) linked),
+          );
+        })
+      where
+        area_at : (met : List Met) (i : ℕ) (d : Met) → i < length met → (get_or met i d).area ≡ get_or (areas_met met) i d.area
+        area_at [] i d below = absurd (omega (arith, below))
+        area_at (m ∷ met) zero d below = refl
+        area_at (m ∷ met) (suc i) d below = area_at met i d (omega (arith, below))
+
+    other_entry : (i : ℕ) (d : Met) → i ≢ top.place → i < length met → IsEntry roots bound t (areas_met new) queue i (get_or new i d)
+    other_entry i d other below =
+        let was = f.entries i d below in
+        subst (IsEntry roots bound t (areas_met new) queue i) (sym (o.others i d other)) (record {
+          tree = was.tree;
+          bound_is = was.bound_is;
+          state = state_map (get_or met i d).first_child _ _ _ _
+              (λ has go. elim (first_or_rest top queue (waiting bound i (get_or met i d).area) (has go)) [
+                | inl same ↦ absurd (other (sym (ap (λ (w : Waiting). w.place) same)))
+                | inr rest ↦ rest
+              ])
+              (λ k linked'. (linked'.0, subst (λ areas. IsLinked areas (get_or met i d).area k) (sym o.same_areas) linked'.1))
+              was.state;
+        })

@@ -134,7 +134,7 @@ module _ (g : GridSize) (roots : List NodeBox) (bound : NodeBox → ℕ) (margin
       ap (λ all. take (length children) (drop (length met) all)) areas ∙ ap (λ all. take (length children) all) seam ∙ take-length children in
       let waiting_more = frontier_more roots margin bound threshold met (top ∷ rest) children best trees known popped in
       let in_front = frontier_permuted roots bound threshold (met ++ map (fresh bound) children) (more ++ top ∷ rest) (top ∷ (more ++ rest))
-          (IsPermutation-middle more top rest) waiting_more in
+      (IsPermutation-middle more top rest) waiting_more in
       let below_top : below bound threshold top.area ≡ sum_by (λ c. 1 + below bound threshold c) children = below_open bound threshold top.area some open' in
       subst (λ b. Goes g roots bound margin new now b) (sym better_is) (record {
         frontier = frontier_permuted roots bound threshold new (more ++ rest) now swaps
@@ -152,9 +152,20 @@ module _ (g : GridSize) (roots : List NodeBox) (bound : NodeBox → ℕ) (margin
             let after = sum_by-IsPermutation (left_of bound threshold) (more ++ rest) now swaps in
             let parted = sum_by-append (left_of bound threshold) more rest in
             let left = left_waits margin bound threshold children best (length met) known in
-            omega (arith, goes.count, before, after, parted, left, below_top, sum_by-cons (left_of bound threshold) top rest,
-                opened.same_length, length-append {A = Met} met (map (fresh bound) children), length-map children (fresh bound),
-                sum_ones (below bound threshold) children);
+            omega (
+              arith,
+              goes.count,
+              before,
+              after,
+              parted,
+              left,
+              below_top,
+              sum_by-cons (left_of bound threshold) top rest,
+              opened.same_length,
+              length-append {A = Met} met (map (fresh bound) children),
+              length-map children (fresh bound),
+              sum_ones (below bound threshold) children,
+            );
         first =
             let many : length (take (length roots) (areas_met met)) ≡ length roots = ap length goes.first in
             let within : length roots ≤ length (areas_met met) = omega (arith, many, length-take (length roots) (areas_met met)) in
@@ -176,10 +187,18 @@ module _ (g : GridSize) (roots : List NodeBox) (bound : NodeBox → ℕ) (margin
       let trees = octree_children roots top.area top_is.tree top_is.several children (λ b at. at) in
       let known = known_low children best goes.best_low trees in
       let below_top : below bound threshold top.area ≡ sum_by (λ c. 1 + below bound threshold c) children = below_open bound threshold top.area some open' in
-      omega (arith, below_top, sum_by-IsPermutation (work_of bound threshold) queue (top ∷ rest) pops,
-          sum_by-IsPermutation (work_of bound threshold) (more ++ rest) now swaps, sum_by-append (work_of bound threshold) more rest,
-          sum_by-cons (work_of bound threshold) top rest, sum_ones (left_of bound threshold) more, sum_ones (below bound threshold) children,
-          left_waits margin bound threshold children best (length met) known, few_waits margin bound children best (length met))
+      omega (
+        arith,
+        below_top,
+        sum_by-IsPermutation (work_of bound threshold) queue (top ∷ rest) pops,
+        sum_by-IsPermutation (work_of bound threshold) (more ++ rest) now swaps,
+        sum_by-append (work_of bound threshold) more rest,
+        sum_by-cons (work_of bound threshold) top rest,
+        sum_ones (left_of bound threshold) more,
+        sum_ones (below bound threshold) children,
+        left_waits margin bound threshold children best (length met) known,
+        few_waits margin bound children best (length met),
+      )
 
   -- a box has to be opened where its bound reaches the threshold of the greater of its bound and the best score known
   pub opens : (met : List Met) (queue rest : List Waiting) (best : ℕ) (top : Waiting) → Goes g roots bound margin met queue best
@@ -198,13 +217,14 @@ module _ (g : GridSize) (roots : List NodeBox) (bound : NodeBox → ℕ) (margin
       let up = threshold_up margin (best_of g bound) (max best top.bound) capped in
       stops_not top.area top_is.several (omega (arith, up, high, top_is.bound_is))
     where
-    all_below : (top : Waiting) (rest : List Waiting) → All (λ (w : Waiting). w.bound ≤ top.bound) rest
-        → (k : ℕ) (d : Waiting) → k < length (top ∷ rest) → (get_or (top ∷ rest) k d).bound ≤ top.bound
-    all_below top rest greatest zero d below' = omega arith
-    all_below top rest greatest (suc k) d below' = greatest k d (omega (arith, below'))
-    stops_not : (a : NodeBox) → is_single a ≡ false → event_threshold g bound margin ≤ bound a → stops bound (event_threshold g bound margin) a ≡ false
-    stops_not a several high =
-        let far : nat_lt (bound a) (event_threshold g bound margin) ≡ false = grind (arith, nat_tests) in rw (several, far) refl
+      all_below : (top : Waiting) (rest : List Waiting) → All (λ (w : Waiting). w.bound ≤ top.bound) rest
+          → (k : ℕ) (d : Waiting) → k < length (top ∷ rest) → (get_or (top ∷ rest) k d).bound ≤ top.bound
+      all_below top rest greatest zero d below' = omega arith
+      all_below top rest greatest (suc k) d below' = greatest k d (omega (arith, below'))
+
+      stops_not : (a : NodeBox) → is_single a ≡ false → event_threshold g bound margin ≤ bound a → stops bound (event_threshold g bound margin) a ≡ false
+      stops_not a several high =
+          let far : nat_lt (bound a) (event_threshold g bound margin) ≡ false = grind (arith, nat_tests) in rw (several, far) refl
 
   -- a box that waits and can't hold a better or a near node
   pub record IsLow (best : ℕ) (w : Waiting) : Type 0 where
@@ -237,45 +257,47 @@ module _ (g : GridSize) (roots : List NodeBox) (bound : NodeBox → ℕ) (margin
             (λ has. (entry.bound_is, settled_by i (get_or met i d).area has stop)) (λ k linked. linked.0) entry.state;
         count =
             let none = sum_zeros (left_of bound (event_threshold g bound margin)) queue
-                (recursion_from_All (λ w. left_of bound (event_threshold g bound margin) w ≡ 0) queue
-                (λ k d below'. below_stop bound (event_threshold g bound margin) (get_or queue k d).area (stop k d below'))) in
+            (recursion_from_All (λ w. left_of bound (event_threshold g bound margin) w ≡ 0) queue
+            (λ k d below'. below_stop bound (event_threshold g bound margin) (get_or queue k d).area (stop k d below'))) in
             omega (arith, goes.count, none);
         first = goes.first;
       }
     where
-    stops_low : (a : NodeBox) → bound a < event_threshold g bound margin → stops bound (event_threshold g bound margin) a ≡ true
-    stops_low a less = or_second (is_single a) (nat_lt (bound a) (event_threshold g bound margin)) (grind (arith, nat_tests))
-    settled_by : (i : ℕ) (a : NodeBox) → (stops bound (event_threshold g bound margin) a ≡ false → Contains queue (waiting bound i a))
-        → ((k : ℕ) (d : Waiting) → k < length queue → stops bound (event_threshold g bound margin) (get_or queue k d).area ≡ true)
-        → stops bound (event_threshold g bound margin) a ≡ true
-    settled_by i a has stop = elim (by_test (stops bound (event_threshold g bound margin) a)) [
-      | inl is ↦ is
-      | inr go ↦
-          let at = has go in
-          let same : get_or queue at.0 (waiting bound i a) ≡ waiting bound i a = at.2 in
-          subst (λ (w : Waiting). stops bound (event_threshold g bound margin) w.area ≡ true) same (stop at.0 (waiting bound i a) at.1)
-    ]
+      stops_low : (a : NodeBox) → bound a < event_threshold g bound margin → stops bound (event_threshold g bound margin) a ≡ true
+      stops_low a less = or_second (is_single a) (nat_lt (bound a) (event_threshold g bound margin)) (grind (arith, nat_tests))
+
+      settled_by : (i : ℕ) (a : NodeBox) → (stops bound (event_threshold g bound margin) a ≡ false → Contains queue (waiting bound i a))
+          → ((k : ℕ) (d : Waiting) → k < length queue → stops bound (event_threshold g bound margin) (get_or queue k d).area ≡ true)
+          → stops bound (event_threshold g bound margin) a ≡ true
+      settled_by i a has stop = elim (by_test (stops bound (event_threshold g bound margin) a)) [
+        | inl is ↦ is
+        | inr go ↦
+            let at = has go in
+            let same : get_or queue at.0 (waiting bound i a) ≡ waiting bound i a = at.2 in
+            subst (λ (w : Waiting). stops bound (event_threshold g bound margin) w.area ≡ true) same (stop at.0 (waiting bound i a) at.1)
+      ]
 
   -- all that wait are low where none has a greater bound than one that is below the threshold of the greater of its bound and the best score
   pub all_low : (rest : List Waiting) (best : ℕ) (top : Waiting) → All (λ (w : Waiting). w.bound ≤ top.bound) rest
       → top.bound < threshold_of margin (max best top.bound) → All (IsLow best) (top ∷ rest)
   all_low rest best top greatest closed k d below' = low_by (get_or (top ∷ rest) k d) (all_within k d below')
     where
-    all_within : (k : ℕ) (d : Waiting) → k < length (top ∷ rest) → (get_or (top ∷ rest) k d).bound ≤ top.bound
-    all_within zero d below' = omega arith
-    all_within (suc k) d below' = greatest k d (omega (arith, below'))
-    low_by : (w : Waiting) → w.bound ≤ top.bound → IsLow best w
-    low_by w within = elim (cases_lt top.bound best) [
-      | inl less ↦
-          let most : max best top.bound ≡ best = omega (arith, less) in
-          let under : top.bound < threshold_of margin best = subst (λ b. top.bound < threshold_of margin b) most closed in
-          record { under = omega (arith, within, less); below_threshold = omega (arith, within, under) }
-      | inr more ↦
-          let most : max best top.bound ≡ top.bound = omega (arith, more) in
-          let under : top.bound < threshold_of margin top.bound = subst (λ b. top.bound < threshold_of margin b) most closed in
-          let none : top.bound ≡ 0 = omega (arith, under, threshold_le margin top.bound) in
-          record { under = omega (arith, within, none); below_threshold = omega (arith, within, none, threshold_some margin best) }
-    ]
+      all_within : (k : ℕ) (d : Waiting) → k < length (top ∷ rest) → (get_or (top ∷ rest) k d).bound ≤ top.bound
+      all_within zero d below' = omega arith
+      all_within (suc k) d below' = greatest k d (omega (arith, below'))
+
+      low_by : (w : Waiting) → w.bound ≤ top.bound → IsLow best w
+      low_by w within = elim (cases_lt top.bound best) [
+        | inl less ↦
+            let most : max best top.bound ≡ best = omega (arith, less) in
+            let under : top.bound < threshold_of margin best = subst (λ b. top.bound < threshold_of margin b) most closed in
+            record { under = omega (arith, within, less); below_threshold = omega (arith, within, under) }
+        | inr more ↦
+            let most : max best top.bound ≡ top.bound = omega (arith, more) in
+            let under : top.bound < threshold_of margin top.bound = subst (λ b. top.bound < threshold_of margin b) most closed in
+            let none : top.bound ≡ 0 = omega (arith, under, threshold_le margin top.bound) in
+            record { under = omega (arith, within, none); below_threshold = omega (arith, within, none, threshold_some margin best) }
+      ]
 
   -- more boxes are met than the budget allows where the children of a box that has to be opened are too many
   pub past_budget : (met : List Met) (queue rest : List Waiting) (best budget : ℕ) (top : Waiting) → Goes g roots bound margin met queue best
@@ -287,8 +309,15 @@ module _ (g : GridSize) (roots : List NodeBox) (bound : NodeBox → ℕ) (margin
       let top_is = popped.queued 0 top (omega arith) in
       let some : IsNonempty top.area = in_nonempty g top.area (octree_inside g roots top.area are top_is.tree) in
       let below_top : below bound threshold top.area ≡ sum_by (λ c. 1 + below bound threshold c) (children_of top.area) = below_open bound threshold top.area some open' in
-      omega (arith, past, goes.count, below_top, sum_by-IsPermutation (left_of bound threshold) queue (top ∷ rest) pops,
-          sum_by-cons (left_of bound threshold) top rest, sum_ones (below bound threshold) (children_of top.area))
+      omega (
+        arith,
+        past,
+        goes.count,
+        below_top,
+        sum_by-IsPermutation (left_of bound threshold) queue (top ∷ rest) pops,
+        sum_by-cons (left_of bound threshold) top rest,
+        sum_ones (below bound threshold) (children_of top.area),
+      )
 
   -- the first box that waits, when it is taken out
   pub top_queued : (met : List Met) (queue rest : List Waiting) (best : ℕ) (top : Waiting) → Goes g roots bound margin met queue best

@@ -49,9 +49,9 @@ module _ (margin : ℕ) (bound : NodeBox → ℕ) where
   pub best_with-up : (best : ℕ) (a : NodeBox) → best ≤ best_with bound best a
   best_with-up best a = best_with-up-by (is_single a)
     where
-    best_with-up-by : (b : Bool) → best ≤ (if b then max best (bound a) else best)
-    best_with-up-by true = omega arith
-    best_with-up-by false = omega arith
+      best_with-up-by : (b : Bool) → best ≤ (if b then max best (bound a) else best)
+      best_with-up-by true = omega arith
+      best_with-up-by false = omega arith
 
   pub best_after-up : (best : ℕ) (areas : List NodeBox) → best ≤ best_after bound best areas
   best_after-up best [] = omega arith
@@ -92,7 +92,7 @@ module _ (margin : ℕ) (bound : NodeBox → ℕ) where
   waits_have t [] best from j d below' low open' = absurd (omega (arith, below'))
   waits_have t (a ∷ areas) best from zero d below' low open' =
       let up = threshold_up margin best (best_after bound (best_with bound best a) areas)
-          (omega (arith, best_with-up best a, best_after-up (best_with bound best a) areas)) in
+      (omega (arith, best_with-up best a, best_after-up (best_with bound best a) areas)) in
       let here : from ≡ from + 0 = omega arith in
       subst (λ front. Contains (front ++ waits margin bound (best_with bound best a) (from + 1) areas) (waiting bound (from + 0) a))
       (sym (wait_here best from t a (omega (arith, up, low)) open'))
@@ -109,7 +109,7 @@ module _ (margin : ℕ) (bound : NodeBox → ℕ) where
   left_waits t [] best from low = refl
   left_waits t (a ∷ areas) best from low =
       let up = threshold_up margin best (best_after bound (best_with bound best a) areas)
-          (omega (arith, best_with-up best a, best_after-up (best_with bound best a) areas)) in
+      (omega (arith, best_with-up best a, best_after-up (best_with bound best a) areas)) in
       let rest = left_waits t areas (best_with bound best a) (from + 1) low in
       let parted = sum_by-append (λ (w : Waiting). below bound t w.area) (wait_of margin bound best from a) (waits margin bound (best_with bound best a) (from + 1) areas) in
       elim (by_test (is_single a || nat_lt (bound a) (threshold_of margin best))) [

@@ -61,9 +61,9 @@ holds_node g a k inside single is =
     let place : place_of g k ≡ (a.x0, a.y0, a.z0) = ap (place_of g) (sym is) ∙ place_of-number g a.x0 a.y0 a.z0 node.0 in
     ap (λ (p : ℕ × ℕ × ℕ). contains a p.0 p.1 p.2) place ∙ holds_first a inside
   where
-  holds_first : (a : NodeBox) → IsIn g a → contains a a.x0 a.y0 a.z0 ≡ true
-  holds_first a inside =
-      let x = inside.x in let y = inside.y in let z = inside.z in grind (arith, nat_tests)
+    holds_first : (a : NodeBox) → IsIn g a → contains a a.x0 a.y0 a.z0 ≡ true
+    holds_first a inside =
+        let x = inside.x in let y = inside.y in let z = inside.z in grind (arith, nat_tests)
 
 pub node_held : (g : GridSize) (a : NodeBox) (k : ℕ) → k < node_count g → is_single a ≡ true → holds g a k ≡ true
     → (a ≡ node_box g k) × (node_number g a.x0 a.y0 a.z0 ≡ k)
@@ -93,9 +93,9 @@ module _ (g : GridSize) (roots : List NodeBox) (bound : NodeBox → ℕ) (t : �
   marks_away : (k : ℕ) (a : NodeBox) → holds g a k ≡ false → marks k a ≡ 0
   marks_away k a away = marks_away-by (is_near g bound t k)
     where
-    marks_away-by : (b : Bool) → cond {A = ℕ} b (cond {A = ℕ} (holds g a k) 1 0) 0 ≡ 0
-    marks_away-by true = ap (λ b. cond {A = ℕ} b 1 0) away
-    marks_away-by false = refl
+      marks_away-by : (b : Bool) → cond {A = ℕ} b (cond {A = ℕ} (holds g a k) 1 0) 0 ≡ 0
+      marks_away-by true = ap (λ b. cond {A = ℕ} b 1 0) away
+      marks_away-by false = refl
 
   marks_here : (k : ℕ) (a : NodeBox) → is_near g bound t k ≡ true → holds g a k ≡ true → marks k a ≡ 1
   marks_here k a near held = ap (λ b. cond {A = ℕ} b (cond {A = ℕ} (holds g a k) 1 0) 0) near ∙ ap (λ b. cond {A = ℕ} b 1 0) held
@@ -135,32 +135,36 @@ module _ (g : GridSize) (roots : List NodeBox) (bound : NodeBox → ℕ) (t : �
             ])
       ]
     where
-    one_hit : (n : ℕ) → n ≡ k → 0 + hit k n ≡ 1
-    one_hit n is = let same : hit k n ≡ 1 = ap (hit k) is ∙ hit_same k in omega (arith, same)
-    no_hit : (n : ℕ) → (n ≡ k → ⊥) → 0 + hit k n ≡ 0
-    no_hit n other = let none : hit k n ≡ 0 = hit_other k n other in omega (arith, none)
-    apart : (b : Bool) → b ≡ true → b ≡ false → ⊥
-    apart true e f = absurd cc
-    apart false e f = absurd cc
-    under : (a : NodeBox) → IsOctreeBox roots a → (k : ℕ) → holds g a k ≡ true → judged_score g bound k ≤ bound a
-    under a tree k held = let place = place_of g k in dominated g roots bound are falls a tree place.0 place.1 place.2 held
-    far_by : (a : NodeBox) → is_single a ≡ false → stops bound t a ≡ true → (score : ℕ) → score ≤ bound a → nat_le t score ≡ false
-    far_by a several stop score low = elim (or_cases (is_single a) (nat_lt (bound a) t) stop) [
-      | inl single ↦ absurd (apart (is_single a) single several)
-      | inr less ↦ let less' : bound a < t = grind (arith, nat_tests) in let far : score < t = omega (arith, less', low) in grind (arith, nat_tests)
-    ]
+      one_hit : (n : ℕ) → n ≡ k → 0 + hit k n ≡ 1
+      one_hit n is = let same : hit k n ≡ 1 = ap (hit k) is ∙ hit_same k in omega (arith, same)
+
+      no_hit : (n : ℕ) → (n ≡ k → ⊥) → 0 + hit k n ≡ 0
+      no_hit n other = let none : hit k n ≡ 0 = hit_other k n other in omega (arith, none)
+
+      apart : (b : Bool) → b ≡ true → b ≡ false → ⊥
+      apart true e f = absurd cc
+      apart false e f = absurd cc
+
+      under : (a : NodeBox) → IsOctreeBox roots a → (k : ℕ) → holds g a k ≡ true → judged_score g bound k ≤ bound a
+      under a tree k held = let place = place_of g k in dominated g roots bound are falls a tree place.0 place.1 place.2 held
+
+      far_by : (a : NodeBox) → is_single a ≡ false → stops bound t a ≡ true → (score : ℕ) → score ≤ bound a → nat_le t score ≡ false
+      far_by a several stop score low = elim (or_cases (is_single a) (nat_lt (bound a) t) stop) [
+        | inl single ↦ absurd (apart (is_single a) single several)
+        | inr less ↦ let less' : bound a < t = grind (arith, nat_tests) in let far : score < t = omega (arith, less', low) in grind (arith, nat_tests)
+      ]
 
   -- sums of marks over boxes of which exactly those that hold a place count
   marks_sum : (k : ℕ) (boxes : List NodeBox) → let place = place_of g k in
       sum_by (marks k) boxes ≡ cond (is_near g bound t k) (holders place.0 place.1 place.2 boxes) 0
   marks_sum k boxes = marks_sum-by (is_near g bound t k) boxes
     where
-    marks_sum-by : (b : Bool) (boxes : List NodeBox)
-        → sum_by (λ (a : NodeBox). cond {A = ℕ} b (cond {A = ℕ} (holds g a k) 1 0) 0) boxes ≡ cond b (holders (place_of g k).0 (place_of g k).1 (place_of g k).2 boxes) 0
-    marks_sum-by true boxes = refl
-    marks_sum-by false [] = refl
-    marks_sum-by false (a ∷ boxes) =
-        omega (arith, sum_by-cons (λ (_ : NodeBox). 0) a boxes, marks_sum-by false boxes)
+      marks_sum-by : (b : Bool) (boxes : List NodeBox)
+          → sum_by (λ (a : NodeBox). cond {A = ℕ} b (cond {A = ℕ} (holds g a k) 1 0) 0) boxes ≡ cond b (holders (place_of g k).0 (place_of g k).1 (place_of g k).2 boxes) 0
+      marks_sum-by true boxes = refl
+      marks_sum-by false [] = refl
+      marks_sum-by false (a ∷ boxes) =
+          omega (arith, sum_by-cons (λ (_ : NodeBox). 0) a boxes, marks_sum-by false boxes)
 
   cover_times : (k : ℕ) → k < node_count g → (a : NodeBox) → IsNonempty a → IsOctreeBox roots a → sum_by (times k) (cover bound t a) ≡ marks k a
   cover_times k below a some tree =
@@ -171,7 +175,7 @@ module _ (g : GridSize) (roots : List NodeBox) (bound : NodeBox → ℕ) (t : �
       (λ b some open' each tree.
       let children = octree_children roots b tree (neither (is_single b) (nat_lt (bound b) t) open').0 (children_of b) (λ c at. at) in
       let same = all-both (λ c. IsOctreeBox roots c → sum_by (times k) (cover bound t c) ≡ marks k c) (IsOctreeBox roots)
-          (λ c. sum_by (times k) (cover bound t c) ≡ marks k c) (λ c given at. given at) (children_of b) each children in
+      (λ c. sum_by (times k) (cover bound t c) ≡ marks k c) (λ c given at. given at) (children_of b) each children in
       ap (sum_by (times k)) (cover_open bound t b some open') ∙ sum_by-flat_map (times k) (cover bound t) (children_of b)
       ∙ sum_by-same_terms (λ c. sum_by (times k) (cover bound t c)) (marks k) (children_of b) same
       ∙ marks_sum k (children_of b) ∙ ap (λ n. cond {A = ℕ} (is_near g bound t k) n 0) (children_once b (place_of g k).0 (place_of g k).1 (place_of g k).2 some))
@@ -183,7 +187,7 @@ module _ (g : GridSize) (roots : List NodeBox) (bound : NodeBox → ℕ) (t : �
   near_times k below =
       let trees = root_trees roots roots (λ b at. at) in
       let same = all-both (IsIn g) (IsOctreeBox roots) (λ r. sum_by (times k) (cover bound t r) ≡ marks k r)
-          (λ r inside tree. cover_times k below r (in_nonempty g r inside) tree) roots are.inside trees in
+      (λ r inside tree. cover_times k below r (in_nonempty g r inside) tree) roots are.inside trees in
       let place = place_of-inside g k below in
       sum_by-flat_map (hits k) (near_of g t) (map (bounded bound) (cover_of bound t roots))
       ∙ sum_by-map (λ b. sum_by (hits k) (near_of g t b)) (bounded bound) (cover_of bound t roots)
@@ -210,17 +214,18 @@ module _ (g : GridSize) (roots : List NodeBox) (bound : NodeBox → ℕ) (t : �
   near_entries (a ∷ boxes) (inside, all) =
       all-append (IsNearEntry g bound) (near_of g t (bounded bound a)) (near_in g t (map (bounded bound) boxes)) (elim (by_test (is_single a && nat_le t (bound a))) [
         | inl one ↦ subst (AllByRecursion (IsNearEntry g bound)) (sym (ap (λ b. if b then (node_number g a.x0 a.y0 a.z0, bound a) ∷ [] else []) one))
-          (entry a inside (first_of (is_single a) (nat_le t (bound a)) one), tt)
+            (entry a inside (first_of (is_single a) (nat_le t (bound a)) one), tt)
         | inr none ↦ subst (AllByRecursion (IsNearEntry g bound)) (sym (ap (λ b. if b then (node_number g a.x0 a.y0 a.z0, bound a) ∷ [] else []) none)) tt
       ]) (near_entries boxes all)
     where
-    first_of : (a b : Bool) → (a && b) ≡ true → a ≡ true
-    first_of true b e = refl
-    first_of false b e = absurd cc
-    entry : (a : NodeBox) → IsIn g a → is_single a ≡ true → IsNearEntry g bound (node_number g a.x0 a.y0 a.z0, bound a)
-    entry a inside single =
-        let node = single_node g a inside single in
-        record { within = node_number-below g a.x0 a.y0 a.z0 node.0; score = ap bound node.1 }
+      first_of : (a b : Bool) → (a && b) ≡ true → a ≡ true
+      first_of true b e = refl
+      first_of false b e = absurd cc
+
+      entry : (a : NodeBox) → IsIn g a → is_single a ≡ true → IsNearEntry g bound (node_number g a.x0 a.y0 a.z0, bound a)
+      entry a inside single =
+          let node = single_node g a inside single in
+          record { within = node_number-below g a.x0 a.y0 a.z0 node.0; score = ap bound node.1 }
 
   -- entries are nodes with their scores
   scored_again : (near : List (ℕ × ℕ)) → AllByRecursion (IsNearEntry g bound) near → near ≡ map (scored g bound) (map (λ (e : ℕ × ℕ). e.0) near)

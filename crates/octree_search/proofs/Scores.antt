@@ -77,19 +77,19 @@ under_children bound a u some all ix iy iz at =
 pub dominated : (g : GridSize) (roots : List NodeBox) (bound : NodeBox → ℕ) → AreRoots g roots → BoundsFall g roots bound
     → (a : NodeBox) → IsOctreeBox roots a → IsUnder bound a (bound a)
 dominated g roots bound are falls a tree =
-      by_cover bound 0 (λ b. IsOctreeBox roots b → IsUnder bound b (bound b))
-      (λ b some stop tree ix iy iz at. elim (or_cases (is_single b) (nat_lt (bound b) 0) stop) [
-        | inl single ↦ let is = single_unit b ix iy iz single at in rw (sym is) (omega arith)
-        | inr low ↦ absurd (grind (arith, nat_tests))
-      ])
-      (λ b some open' each tree. let several = (neither (is_single b) (nat_lt (bound b) 0) open').0 in
-      under_children bound b (bound b) some
-      (all-both (λ c. bound c ≤ bound b) (λ c. IsUnder bound c (bound c)) (λ c. IsUnder bound c (bound b))
-      (λ c fall under ix iy iz at. let least = under ix iy iz at in omega (arith, fall, least))
-      (children_of b) (falls b (octree_inside g roots b are tree) tree several)
-      (all-both (λ c. IsOctreeBox roots c → IsUnder bound c (bound c)) (IsOctreeBox roots) (λ c. IsUnder bound c (bound c))
-      (λ c given at. given at) (children_of b) each (octree_children roots b tree several (children_of b) (λ c at. at)))))
-      a (in_nonempty g a (octree_inside g roots a are tree)) tree
+    by_cover bound 0 (λ b. IsOctreeBox roots b → IsUnder bound b (bound b))
+    (λ b some stop tree ix iy iz at. elim (or_cases (is_single b) (nat_lt (bound b) 0) stop) [
+      | inl single ↦ let is = single_unit b ix iy iz single at in rw (sym is) (omega arith)
+      | inr low ↦ absurd (grind (arith, nat_tests))
+    ])
+    (λ b some open' each tree. let several = (neither (is_single b) (nat_lt (bound b) 0) open').0 in
+    under_children bound b (bound b) some
+    (all-both (λ c. bound c ≤ bound b) (λ c. IsUnder bound c (bound c)) (λ c. IsUnder bound c (bound b))
+    (λ c fall under ix iy iz at. let least = under ix iy iz at in omega (arith, fall, least))
+    (children_of b) (falls b (octree_inside g roots b are tree) tree several)
+    (all-both (λ c. IsOctreeBox roots c → IsUnder bound c (bound c)) (IsOctreeBox roots) (λ c. IsUnder bound c (bound c))
+    (λ c given at. given at) (children_of b) each (octree_children roots b tree several (children_of b) (λ c at. at)))))
+    a (in_nonempty g a (octree_inside g roots a are tree)) tree
 
 best_none : (n : ℕ) (score : ℕ → ℕ) (u : ℕ) → n ≤ 0 → best_score n score ≤ u
 unfolding best_score

@@ -22,9 +22,9 @@ hit_same k = let is : (k == k) ≡ true = grind (arith, nat_tests) in ap (λ b. 
 pub hit_other : (k x : ℕ) → (x ≡ k → ⊥) → hit k x ≡ 0
 hit_other k x other = hit_other-by (by_test (x == k))
   where
-  hit_other-by : ((x == k) ≡ true) ⊎ ((x == k) ≡ false) → hit k x ≡ 0
-  hit_other-by (inl same) = absurd (other (grind (arith, nat_tests)))
-  hit_other-by (inr not_same) = ap (λ b. cond {A = ℕ} b 1 0) not_same
+    hit_other-by : ((x == k) ≡ true) ⊎ ((x == k) ≡ false) → hit k x ≡ 0
+    hit_other-by (inl same) = absurd (other (grind (arith, nat_tests)))
+    hit_other-by (inr not_same) = ap (λ b. cond {A = ℕ} b 1 0) not_same
 
 -- a number below all others doesn't stand among them
 pub not_among : (k : ℕ) (xs : List ℕ) → AllByRecursion (λ y. k < y) xs → sum_by (hit k) xs ≡ 0
@@ -44,11 +44,11 @@ from_next k n (x ∷ xs) (here, all) none =
       from_next k n xs all (omega (arith, parts)),
     )
   where
-  cases_up : (k x : ℕ) → k ≤ x → (x ≡ k → ⊥) → k + 1 ≤ x
-  cases_up k x low other = elim (cases_lt k x) [
-    | inl less ↦ omega (arith, less)
-    | inr more ↦ absurd (other (omega (arith, low, more)))
-  ]
+    cases_up : (k x : ℕ) → k ≤ x → (x ≡ k → ⊥) → k + 1 ≤ x
+    cases_up k x low other = elim (cases_lt k x) [
+      | inl less ↦ omega (arith, less)
+      | inr more ↦ absurd (other (omega (arith, low, more)))
+    ]
 
 -- so a list in order, within a range, in which each number of the range stands once where a test holds and else not, is the range's
 -- numbers that pass the test
@@ -66,44 +66,46 @@ sorted_is p from (suc n) xs ascends within counts = elim (by_test (p from)) [
       ∙ sym (filter_fails fails)
 ]
   where
-  filter_fails : p from ≡ false → filter p (range_with_len from (suc n)) ≡ filter p (range_with_len (from + 1) n)
-  filter_fails fails = rw fails refl
-  sorted_first : (xs : List ℕ) → Ascends xs → AllByRecursion (λ x. (from ≤ x) × (x < from + suc n)) xs → sum_by (hit from) xs ≡ 1
-      → ((k : ℕ) → from + 1 ≤ k → k < from + 1 + n → sum_by (hit k) xs ≡ cond (p k) 1 0) → p from ≡ true
-      → ((rest : List ℕ) → Ascends rest → AllByRecursion (λ x. (from + 1 ≤ x) × (x < from + 1 + n)) rest
-      → ((k : ℕ) → from + 1 ≤ k → k < from + 1 + n → sum_by (hit k) rest ≡ cond (p k) 1 0) → rest ≡ filter p (range_with_len (from + 1) n))
-      → xs ≡ filter p (range_with_len from (suc n))
-  sorted_first [] ascends in_range one cs passes recur = absurd (omega (arith, one))
-  sorted_first (x ∷ rest) (low, ascends) (here, in_range) one cs passes recur =
-      let parts : hit from x + sum_by (hit from) rest ≡ 1 = sym (sum_by-cons (hit from) x rest) ∙ one in
-      elim (cases_eq x from) [
-        | inl same ↦
-            let first : hit from x ≡ 1 = ap (hit from) same ∙ hit_same from in
-            let none : sum_by (hit from) rest ≡ 0 = omega (arith, parts, first) in
-            let tail : rest ≡ filter p (range_with_len (from + 1) n) =
-            recur rest ascends (from_next from n rest in_range none) (λ k low' high.
-            let other : hit k x ≡ 0 = hit_other k x (λ is. absurd (omega (arith, low', is, same))) in
-            let whole : sum_by (hit k) (x ∷ rest) ≡ hit k x + sum_by (hit k) rest = sum_by-cons (hit k) x rest in
-            omega (arith, whole, other, cs k low' high)) in
-            ap (λ y. y ∷ rest) same ∙ ap (λ more. from ∷ more) tail ∙ sym (filter_passes passes)
-        | inr other ↦
-            let none : hit from x ≡ 0 = hit_other from x other in
-            absurd (
-            let more : sum_by (hit from) rest ≡ 0 = not_among from rest (above x rest low here.0 other) in
-            omega (arith, parts, none, more))
-      ]
-    where
-    filter_passes : p from ≡ true → filter p (range_with_len from (suc n)) ≡ from ∷ filter p (range_with_len (from + 1) n)
-    filter_passes passes = rw passes refl
-    above : (x : ℕ) (rest : List ℕ) → AllByRecursion (λ y. x ≤ y) rest → from ≤ x → (x ≡ from → ⊥) → AllByRecursion (λ y. from < y) rest
-    above x [] low begins other = tt
-    above x (y ∷ rest) (here, low) begins other = (
-      elim (cases_lt from y) [
-        | inl less ↦ less
-        | inr more ↦ absurd (other (omega (arith, here, begins, more)))
-      ],
-      above x rest low begins other,
-    )
+    filter_fails : p from ≡ false → filter p (range_with_len from (suc n)) ≡ filter p (range_with_len (from + 1) n)
+    filter_fails fails = rw fails refl
+
+    sorted_first : (xs : List ℕ) → Ascends xs → AllByRecursion (λ x. (from ≤ x) × (x < from + suc n)) xs → sum_by (hit from) xs ≡ 1
+        → ((k : ℕ) → from + 1 ≤ k → k < from + 1 + n → sum_by (hit k) xs ≡ cond (p k) 1 0) → p from ≡ true
+        → ((rest : List ℕ) → Ascends rest → AllByRecursion (λ x. (from + 1 ≤ x) × (x < from + 1 + n)) rest
+        → ((k : ℕ) → from + 1 ≤ k → k < from + 1 + n → sum_by (hit k) rest ≡ cond (p k) 1 0) → rest ≡ filter p (range_with_len (from + 1) n))
+        → xs ≡ filter p (range_with_len from (suc n))
+    sorted_first [] ascends in_range one cs passes recur = absurd (omega (arith, one))
+    sorted_first (x ∷ rest) (low, ascends) (here, in_range) one cs passes recur =
+        let parts : hit from x + sum_by (hit from) rest ≡ 1 = sym (sum_by-cons (hit from) x rest) ∙ one in
+        elim (cases_eq x from) [
+          | inl same ↦
+              let first : hit from x ≡ 1 = ap (hit from) same ∙ hit_same from in
+              let none : sum_by (hit from) rest ≡ 0 = omega (arith, parts, first) in
+              let tail : rest ≡ filter p (range_with_len (from + 1) n) =
+              recur rest ascends (from_next from n rest in_range none) (λ k low' high.
+              let other : hit k x ≡ 0 = hit_other k x (λ is. absurd (omega (arith, low', is, same))) in
+              let whole : sum_by (hit k) (x ∷ rest) ≡ hit k x + sum_by (hit k) rest = sum_by-cons (hit k) x rest in
+              omega (arith, whole, other, cs k low' high)) in
+              ap (λ y. y ∷ rest) same ∙ ap (λ more. from ∷ more) tail ∙ sym (filter_passes passes)
+          | inr other ↦
+              let none : hit from x ≡ 0 = hit_other from x other in
+              absurd (
+              let more : sum_by (hit from) rest ≡ 0 = not_among from rest (above x rest low here.0 other) in
+              omega (arith, parts, none, more))
+        ]
+      where
+        filter_passes : p from ≡ true → filter p (range_with_len from (suc n)) ≡ from ∷ filter p (range_with_len (from + 1) n)
+        filter_passes passes = rw passes refl
+
+        above : (x : ℕ) (rest : List ℕ) → AllByRecursion (λ y. x ≤ y) rest → from ≤ x → (x ≡ from → ⊥) → AllByRecursion (λ y. from < y) rest
+        above x [] low begins other = tt
+        above x (y ∷ rest) (here, low) begins other = (
+          elim (cases_lt from y) [
+            | inl less ↦ less
+            | inr more ↦ absurd (other (omega (arith, here, begins, more)))
+          ],
+          above x rest low begins other,
+        )
 
 -- numbers that don't fall ascend
 pub ascends_from : {X : Type 0} (n : X → ℕ) (xs : List X) → ((i j : ℕ) (d : X) → i ≤ j → j < length xs → n (get_or xs i d) ≤ n (get_or xs j d))
@@ -114,7 +116,7 @@ ascends_from n (x ∷ xs) order = (
   ascends_from n xs (λ i j d low below. order (suc i) (suc j) d (omega (arith, low)) (omega (arith, below))),
 )
   where
-  first_least : {X : Type 0} (n : X → ℕ) (x : X) (xs : List X) → ((k : ℕ) (d : X) → k < length xs → n x ≤ n (get_or xs k d))
-      → AllByRecursion (λ y. n x ≤ y) (map n xs)
-  first_least n x [] low = tt
-  first_least n x (y ∷ xs) low = (low 0 y (omega arith), first_least n x xs (λ k d below. low (suc k) d (omega (arith, below))))
+    first_least : {X : Type 0} (n : X → ℕ) (x : X) (xs : List X) → ((k : ℕ) (d : X) → k < length xs → n x ≤ n (get_or xs k d))
+        → AllByRecursion (λ y. n x ≤ y) (map n xs)
+    first_least n x [] low = tt
+    first_least n x (y ∷ xs) low = (low 0 y (omega arith), first_least n x xs (λ k d below. low (suc k) d (omega (arith, below))))

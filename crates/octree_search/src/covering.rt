@@ -11,7 +11,11 @@ use node_boxes::BoxBound;
 use std::alloc::{AllocError, Global};
 
 /// The boxes of the cover of the first `count` boxes that were met, each with its bound, in the order of the octree.
-pub(crate) fn collect_cover(alloc: Global, met: &[Met], count: usize) -> Result<Vec<BoxBound>, AllocError>
+pub(crate) fn collect_cover(
+    alloc: Global,
+    met: &[Met],
+    count: usize,
+) -> Result<Vec<BoxBound>, AllocError>
     requires tree { IsTree met.now }
     requires count { count ≤ length met.now }
     ensures { (bound : NodeBox → ℕ) (t : ℕ) → All (IsSettled bound t) met.now

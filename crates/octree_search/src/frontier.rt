@@ -8,8 +8,8 @@ ghost use Rattle.octree_search.specs.Inside.Arena.{IsOpened, fresh};
 ghost use Rattle.octree_search.specs.Inside.Meeting.{best_after, best_with, wait_of, waits};
 
 use crate::arena::{Met, open_at};
-use crate::queue::{Queue, Waiting};
 use crate::nearness::threshold;
+use crate::queue::{Queue, Waiting};
 use edt_score::Judge;
 use node_boxes::{Children, NodeBox};
 use std::alloc::{AllocError, Global};
@@ -37,7 +37,12 @@ impl Frontier {
     }
 
     /// Meets a box: asks for its bound, and lets it wait unless it is single, which tells its score, or below the threshold.
-    fn meet<J: Judge>(&mut self, judge: &mut J, margin: u32, area: &NodeBox) -> Result<(), AllocError>
+    fn meet<J: Judge>(
+        &mut self,
+        judge: &mut J,
+        margin: u32,
+        area: &NodeBox,
+    ) -> Result<(), AllocError>
         requires margin { margin ≤ 999 }
         requires few { length self.old.met.items + 1 < 2 ^ 32 }
         requires ready { J.ready judge.old }
@@ -76,7 +81,12 @@ impl Frontier {
         })
     }
     /// Meets boxes one after another.
-    pub fn meet_all<J: Judge>(&mut self, judge: &mut J, margin: u32, areas: &[NodeBox]) -> Result<(), AllocError>
+    pub fn meet_all<J: Judge>(
+        &mut self,
+        judge: &mut J,
+        margin: u32,
+        areas: &[NodeBox],
+    ) -> Result<(), AllocError>
         requires margin { margin ≤ 999 }
         requires few { length self.old.met.items + length areas.now < 2 ^ 32 }
         requires ready { J.ready judge.old }
@@ -102,7 +112,12 @@ impl Frontier {
     }
 
     /// Opens a box that waited: meets its children, and links it to them.
-    pub fn open<J: Judge>(&mut self, judge: &mut J, margin: u32, top: &Waiting) -> Result<(), AllocError>
+    pub fn open<J: Judge>(
+        &mut self,
+        judge: &mut J,
+        margin: u32,
+        top: &Waiting,
+    ) -> Result<(), AllocError>
         requires margin { margin ≤ 999 }
         requires several { IsSplittable top.now.area }
         requires place { top.now.place < length self.old.met.items }

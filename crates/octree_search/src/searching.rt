@@ -57,7 +57,14 @@ pub fn search<J: Judge>(
     let Some(explored) = explore(alloc, judge, roots, margin, budget)? else {
         return Ok(Found::Budget);
     };
-    found_from(alloc, grid, &explored.met, roots.len(), explored.best, margin)
+    found_from(
+        alloc,
+        grid,
+        &explored.met,
+        roots.len(),
+        explored.best,
+        margin,
+    )
 }
 
 /// What a search has found within its budget, from the boxes that it met, of which the first `roots` are the roots, and the best score.

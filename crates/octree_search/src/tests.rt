@@ -59,7 +59,14 @@ fn searched(alloc: Global, field: &Field, margin: u32, budget: u32) -> Result<(F
     let gaussian = Falloff::new(Shape::Gauss, |misfit, scale| gauss(misfit, scale));
     let scorer = Scorer::new(alloc, field, &problem, &gaussian)?;
     let mut judge = PyramidJudge::new(scorer);
-    let found = search(alloc, &mut judge, field.grid(), field.roots(), margin, budget)?;
+    let found = search(
+        alloc,
+        &mut judge,
+        field.grid(),
+        field.roots(),
+        margin,
+        budget,
+    )?;
     let asked = judge.asked();
     Ok((found, asked))
 }
@@ -81,7 +88,13 @@ fn in_cover(x: (u32, u32), y: (u32, u32), bound: u64) -> BoxBound {
 fn no_fit_has_the_roots_as_its_cover_where_they_bound_all(rt: HostRuntime) -> Result<(), Fail> {
     let alloc = rt.alloc();
     let grid = Grid::new(2, 1, 1).ok_or("two nodes")?;
-    let field = two_rows(alloc, grid, 1, vec![in alloc; 800_000, 900_000]?, vec![in alloc; 0, 0]?)?;
+    let field = two_rows(
+        alloc,
+        grid,
+        1,
+        vec![in alloc; 800_000, 900_000]?,
+        vec![in alloc; 0, 0]?,
+    )?;
     let (Found::NoFit { cover, met }, asked) = searched(alloc, &field, 0, 4)? else {
         return Err("a fit".into());
     };
@@ -109,14 +122,23 @@ fn the_first_of_two_nodes_that_tie_stands(rt: HostRuntime) -> Result<(), Fail> {
 fn a_margin_takes_in_near_nodes_and_a_budget_ends_the_search(rt: HostRuntime) -> Result<(), Fail> {
     let alloc = rt.alloc();
     let grid = Grid::new(3, 1, 1).ok_or("three nodes")?;
-    let field = two_rows(alloc, grid, 1, vec![in alloc; 0, 3125, 800_000]?, vec![in alloc; 0; 3]?)?;
+    let field = two_rows(
+        alloc,
+        grid,
+        1,
+        vec![in alloc; 0, 3125, 800_000]?,
+        vec![in alloc; 0; 3]?,
+    )?;
     assert_eq!(rt; threshold(999, WHOLE), 343_597_384);
     for budget in [5, 6] {
         let (Found::Located(event), asked) = searched(alloc, &field, 999, budget)? else {
             return Err("nothing located".into());
         };
         assert_eq!(rt; (event.hyp, event.met, asked), (0, 5, 5));
-        assert_eq!(rt; event.near.as_slice(), &[(0, WHOLE), (1, 343_513_497_600)][..]);
+        assert_eq!(rt;
+            event.near.as_slice(),
+            &[(0, WHOLE), (1, 343_513_497_600)][..]
+        );
         let singles = [
             in_cover((0, 1), (0, 1), WHOLE),
             in_cover((1, 2), (0, 1), 343_513_497_600),
@@ -130,14 +152,25 @@ fn a_margin_takes_in_near_nodes_and_a_budget_ends_the_search(rt: HostRuntime) ->
 }
 
 #[test]
-fn nodes_that_all_tie_are_near_in_grid_order_and_covered_in_the_octrees(rt: HostRuntime) -> Result<(), Fail> {
+fn nodes_that_all_tie_are_near_in_grid_order_and_covered_in_the_octrees(
+    rt: HostRuntime,
+) -> Result<(), Fail> {
     let alloc = rt.alloc();
     let grid = Grid::new(5, 3, 1).ok_or("fifteen nodes")?;
-    let field = two_rows(alloc, grid, 1, vec![in alloc; 0; 15]?, vec![in alloc; 0; 15]?)?;
+    let field = two_rows(
+        alloc,
+        grid,
+        1,
+        vec![in alloc; 0; 15]?,
+        vec![in alloc; 0; 15]?,
+    )?;
     let (Found::Located(event), asked) = searched(alloc, &field, 0, 30)? else {
         return Err("nothing located".into());
     };
-    assert_eq!(rt; (event.hyp, event.score, event.met, asked), (0, WHOLE, 23, 23));
+    assert_eq!(rt;
+        (event.hyp, event.score, event.met, asked),
+        (0, WHOLE, 23, 23)
+    );
     for (node, entry) in event.near.iter().enumerate() {
         assert_eq!(rt; *entry, (node as u32, WHOLE));
     }
@@ -146,6 +179,9 @@ fn nodes_that_all_tie_are_near_in_grid_order_and_covered_in_the_octrees(rt: Host
     for b in &event.cover {
         nodes.push(b.area.x0 * 3 + b.area.y0)?;
     }
-    assert_eq!(rt; nodes.as_slice(), &[0, 3, 1, 4, 6, 7, 2, 5, 8, 9, 10, 12, 13, 11, 14][..]);
+    assert_eq!(rt;
+        nodes.as_slice(),
+        &[0, 3, 1, 4, 6, 7, 2, 5, 8, 9, 10, 12, 13, 11, 14][..]
+    );
     Ok(())
 }

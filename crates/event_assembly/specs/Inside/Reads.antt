@@ -15,7 +15,7 @@ use Rattle.time_grid.specs.Numbers.{is_over}
 use Rattle.event_assembly.specs.declared.faults.AssembleFault.{AssembleFault}
 use Rattle.event_assembly.specs.declared.faults.AssembleFault.TheVariants.{Absent, Failed, Body, Align, Memory}
 use Rattle.event_assembly.specs.Answers.{IfToldFault}
-use Rattle.event_assembly.specs.Assembling.{first_fault}
+use Rattle.event_assembly.specs.Assembling.{first_fault, roots_for}
 use Rattle.event_assembly.specs.Headers.{header_of, header_fault, fault_of_file}
 use Rattle.event_assembly.specs.Names.{header_name, body_name}
 use Rattle.event_assembly.specs.Rows.{body_search_times, times_for, fault_of_row_file, row_fault, row_times}
@@ -92,5 +92,5 @@ ReadsRow files control key header (Err fault) = ReadsTimes files control key hea
 abbrev pub ReadsRows : Files → ControlValues → List GridKey → Result FieldTimes AssembleFault → Type 0
 ReadsRows files control keys (Ok field) =
     (first_fault (map (row_fault files control) keys) ≡ None)
-    × (field ≡ record { grid = control.frame.grid; rows = map (row_times files control) keys })
+    × (field ≡ record { grid = control.frame.grid; roots = roots_for control; rows = map (row_times files control) keys })
 ReadsRows files control keys (Err fault) = IsRefusal (first_fault (map (row_fault files control) keys)) fault

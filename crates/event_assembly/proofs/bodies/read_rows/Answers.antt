@@ -24,6 +24,7 @@ loop-row-init g c =
       told = AreMade-none (g.S.Shelf.files c.args.shelf.now) (λ files. row_fault files control) (λ files. row_times files control)
           (keys_at c.args.keys.now c.args.rows.now) c.in_ok-field.field.rows start;
       grid = ap (λ (f : FieldTimes). f.grid) c.in_ok-field.ensures;
+      roots = ap (λ (f : FieldTimes). f.roots) c.in_ok-field.ensures ∙ c.in_ok-roots.ensures.value;
       long = rw start refl;
       buffer = c.in_ok-buffer.ensures.len;
       ended = ended_now (g.S.Shelf.files c.args.shelf.now) (g.S.Shelf.left c.args.shelf.now);
@@ -96,6 +97,7 @@ loop-row-preserved g c =
           (row_made (g.S.Shelf.files c.args.shelf.now) (g.S.Shelf.files c.loop-row.shelf) control keys c.args.headers.now k c.index-keys-row.result
           c.header_of_key-header.result.now c.in_ok-times.times.items kept.same_files c.requires.headers here c.header_of_key-header.ensures.value one.told));
       grid = ap (λ (f : FieldTimes). f.grid) c.in_ok-push_row.ensures.pushed ∙ kept.grid;
+      roots = ap (λ (f : FieldTimes). f.roots) c.in_ok-push_row.ensures.pushed ∙ kept.roots;
       long = rw (pushed, length-append c.loop-row.field.rows (c.in_ok-times.times.items ∷ [])) (omega (arith, kept.long));
       buffer = kept.buffer;
       ended = ended_more (g.S.Shelf.files c.args.shelf.now) (g.S.Shelf.files c.loop-row.shelf) (g.S.Shelf.left c.args.shelf.now) (g.S.Shelf.left c.loop-row.shelf)
@@ -112,4 +114,4 @@ pub returns-clause-told : goal.returns-clause-told
 returns-clause-told g c =
     let long = length-keys_at c.args.keys.now c.args.headers.now c.args.rows.now c.requires.rows in
     rows_all (g.S.Shelf.files c.args.shelf.now) (values_of c.args.control.now) c.loop-row.row-index (keys_at c.args.keys.now c.args.rows.now) c.loop-row.field
-    (omega arith) c.loop-row.invariant.grid c.loop-row.invariant.told
+    (omega arith) c.loop-row.invariant.grid c.loop-row.invariant.roots c.loop-row.invariant.told

@@ -78,7 +78,7 @@ returns-then-len-budget-clause-explored g c =
     let top = c.in-Some.top in
     let kids : c.len-in-Some.result ≡ length (children_of top.area) = rw c.children.ensures at c.len-in-Some.ensures.value in
     let open' = opens_high grid roots bound c.args.margin c.requires.roots falls c.loop-top.frontier.met.items c.loop-top.frontier.queue c.pop.new.self c.loop-top.frontier.best top
-        kept.goes c.in-Some.ensures.some c.in-Some.ensures.greatest (sym c.if-is_low.ensures) in
+    kept.goes c.in-Some.ensures.some c.in-Some.ensures.greatest (sym c.if-is_low.ensures) in
     past_budget grid roots bound c.args.margin c.requires.roots falls c.loop-top.frontier.met.items c.loop-top.frontier.queue c.pop.new.self c.loop-top.frontier.best c.args.budget top
     kept.goes c.in-Some.ensures.some open' (omega (arith, kids, c.if-len-budget.true, c.len.ensures))
 
@@ -107,7 +107,7 @@ open-requires-clause-tree g c =
     let bound = g.J.Judge.bound_of c.args.judge.now in
     let falls : BoundsFall grid roots bound = subst (λ (r : List NodeBox). BoundsFall grid r bound) c.requires.same_roots (g.met.J.Judge.falls c.args.judge.now) in
     let is = top_queued grid roots bound c.args.margin c.requires.roots falls c.loop-top.frontier.met.items c.loop-top.frontier.queue c.pop.new.self c.loop-top.frontier.best c.in-Some.top
-        c.loop-top.invariant.goes c.in-Some.ensures.some in
+    c.loop-top.invariant.goes c.in-Some.ensures.some in
     subst (λ (r : List NodeBox). IsOctreeBox r c.in-Some.top.area) (sym (c.loop-top.invariant.same_roots ∙ c.requires.same_roots)) is.tree
 
 pub loop-top-smaller : goal.loop-top-smaller
@@ -119,7 +119,7 @@ loop-top-smaller g c =
     let kept = c.loop-top.invariant in
     let top = c.in-Some.top in
     let open' = opens_high grid roots bound c.args.margin c.requires.roots falls c.loop-top.frontier.met.items c.loop-top.frontier.queue c.pop.new.self c.loop-top.frontier.best top
-        kept.goes c.in-Some.ensures.some c.in-Some.ensures.greatest (sym c.if-is_low.ensures) in
+    kept.goes c.in-Some.ensures.some c.in-Some.ensures.greatest (sym c.if-is_low.ensures) in
     work_less grid roots bound c.args.margin c.requires.roots falls c.loop-top.frontier.met.items c.loop-top.frontier.queue c.pop.new.self c.loop-top.frontier.best top c.open.new.self.queue
     kept.goes c.in-Some.ensures.some open'
     (subst (λ b. IsPermutation (waits c.args.margin b c.loop-top.frontier.best (length c.loop-top.frontier.met.items) (children_of top.area) ++ c.pop.new.self) c.open.new.self.queue)
@@ -136,9 +136,9 @@ loop-top-preserved g c =
     let opened = c.in_ok-open.ensures in
     let kids : c.len-in-Some.result ≡ length (children_of top.area) = rw c.children.ensures at c.len-in-Some.ensures.value in
     let open' = opens_high grid roots bound c.args.margin c.requires.roots falls c.loop-top.frontier.met.items c.loop-top.frontier.queue c.pop.new.self c.loop-top.frontier.best top
-        kept.goes c.in-Some.ensures.some c.in-Some.ensures.greatest (sym c.if-is_low.ensures) in
+    kept.goes c.in-Some.ensures.some c.in-Some.ensures.greatest (sym c.if-is_low.ensures) in
     let met = subst (λ b. IsOpened (c.loop-top.frontier.met.items ++ map (fresh b) (children_of top.area)) top.place (length c.loop-top.frontier.met.items) c.open.new.self.met.items)
-        kept.same_bounds opened.met in
+    kept.same_bounds opened.met in
     let long : length c.open.new.self.met.items ≡ length c.loop-top.frontier.met.items + length (children_of top.area) =
     omega (arith, met.same_length, length-append {A = Met} c.loop-top.frontier.met.items (map (fresh bound) (children_of top.area)), length-map (children_of top.area) (fresh bound)) in
     record {

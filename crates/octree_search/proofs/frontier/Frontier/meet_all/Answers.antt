@@ -16,8 +16,13 @@ loop-area-preserved g c =
     let d : NodeBox = record { x0 = 0; x1 = 0; y0 = 0; y1 = 0; z0 = 0; z1 = 0 } in
     let bound = g.J.Judge.bound_of c.args.judge.now in
     let long : length c.loop-area.self.met.items ≡ length c.args.self.now.met.items + i =
-    omega (arith, ap length kept.met, length-append {A = Met} c.args.self.now.met.items (map (fresh bound) (take i c.args.areas.now)),
-        length-map (take i c.args.areas.now) (fresh bound), length-take-le i c.args.areas.now (omega (arith, c.loop-area-test.true))) in
+    omega (
+      arith,
+      ap length kept.met,
+      length-append {A = Met} c.args.self.now.met.items (map (fresh bound) (take i c.args.areas.now)),
+      length-map (take i c.args.areas.now) (fresh bound),
+      length-take-le i c.args.areas.now (omega (arith, c.loop-area-test.true)),
+    ) in
     record {
       still = met.still;
       same_grid = met.same_grid ∙ kept.same_grid;
