@@ -2,6 +2,7 @@ pub mod CauseNames
 pub mod Lines
 pub mod Told
 pub mod FileWords
+pub mod Statuses
 pub mod Refusals
 pub mod RefusalLines
 pub mod FilesUnder

@@ -1,5 +1,5 @@
 -- The refusals of a run: the status that each has, and which of them the files don't tell.
-use Rattle.std.specs.Prelude.{◌≡◌, ℕ, Bool, true, false, not, ◌==◌, ◌||◌, Result, Ok, Err}
+use Rattle.std.specs.Prelude.{◌≡◌, ℕ, Bool, true, false, List, [], ◌∷◌, Result, Ok, Err}
 use Rattle.control_reader.specs.declared.fault.ControlCause.{ControlCause}
 use Rattle.control_reader.specs.declared.fault.ControlCause.TheVariants.{LongLine, Repeated, Fields, Name, Number, Method, FileType, Limit, NotYet, NestedInclude, Missing, Memory as control_memory}
 use Rattle.phase_reader.specs.declared.fault.PhaseCause.{PhaseCause}
@@ -8,6 +8,7 @@ use Rattle.time_grid.specs.declared.faults.GridFault.{GridFault}
 use Rattle.time_grid.specs.declared.faults.GridFault.TheVariants.{Absent as grid_absent, Failed as grid_failed, Short, Long, TimeLimit, Memory as grid_memory}
 use Rattle.event_assembly.specs.declared.faults.AssembleFault.{AssembleFault}
 use Rattle.event_assembly.specs.declared.faults.AssembleFault.TheVariants.{Absent as fault_absent, Failed, Header as fault_header, HeaderLong as fault_header_long, Body as fault_body, Align as fault_align, Cells as fault_cells, Memory as fault_memory}
+use Rattle.run_input.specs.Statuses.{is_one_of}
 use Rattle.run_input.specs.declared.refusals.Refusal.{Refusal}
 use Rattle.run_input.specs.declared.refusals.Refusal.TheVariants.{Control, ControlTooLong, Phases, PhasesTooLong, Header, HeaderLong, Body, Align, Cells, Absent, Read, Memory}
 
@@ -33,7 +34,7 @@ status_of_answer (Err refusal) = status_of refusal
 
 -- want of memory and failed calls aren't told by the files
 abbrev pub is_untold : Refusal → Bool
-is_untold refusal = (status_of refusal == 6) || (status_of refusal == 7)
+is_untold refusal = is_one_of (status_of refusal) (6 ∷ 7 ∷ [])
 
 -- the answer is the one that the files tell: their value, or their first refusal
 abbrev pub IsAnswer : {V T : Type 0} → (T → V) → Result V Refusal → Result T Refusal → Type 0

@@ -14,5 +14,6 @@ mod telling;
 
 pub use file_words::{file_word, is_file_word};
 pub use input::{RunInput, read_run};
+pub use reading::file_name;
 pub use refusals::Refusal;
 pub use telling::{put_pieces, tell_refusal};

@@ -37,7 +37,7 @@ pub fn read_control_file<S: Shelf>(
     ensures lacks { S.lacks shelf.new ≡ S.lacks shelf.old }
     ensures calls { S.calls shelf.old ≤ S.calls shelf.new }
 {
-    let main_name = name_of_word(alloc, name)?;
+    let main_name = file_name(alloc, name)?;
     let too_long = Refusal::ControlTooLong(0);
     let main = read_file(alloc, shelf, main_name, MOST_CONTROL_BYTES, too_long)?;
     let names = match include_names(alloc, &main) {
@@ -140,8 +140,8 @@ fn read_file<S: Shelf>(
     }
 }
 
-// The name that a word of a run is. The word is refused for want of memory alone.
-fn name_of_word(alloc: Global, word: &str) -> Result<Name, AllocError>
+/// The name of a word that may name a file. Want of memory alone refuses it.
+pub fn file_name(alloc: Global, word: &str) -> Result<Name, AllocError>
     requires named { IsTrue (is_name 512 word.now) }
     ensures { IfOk result (λ name. name ≡ word.now) }
 {
