@@ -1,37 +1,55 @@
 //! Why a run ends without its text.
+ghost use Rattle.std.specs.Prelude.{◌≡◌};
+ghost use Rattle.edt_top.specs.declared.refusals.RunRefusal.TheVariants.{Input};
+ghost use Rattle.edt_top.specs.Inside.Writing.{refusal_of_write};
 
-use crate::problem_cursor::ProblemFault;
+use crate::solve::problem_cursor::ProblemFault;
+use crate::writing::WriteFault;
+use run_input::Refusal;
 
-// Why a run ends with another status than 0, where its words have a shape.
-#[derive(Clone, Copy)]
-pub enum Refusal {
+// Why a run whose words have a shape ends with another status than 0.
+#[derive(Drop)]
+pub enum RunRefusal {
     // The first faulty word of the problem file.
     Problem(ProblemFault),
     // The problem file passes its limit.
-    TooLong,
-    // Memory was wanting.
-    Memory,
-    // A call of the shelf failed.
-    Read,
+    ProblemTooLong,
+    // What the run needs can't be read, or memory is wanting.
+    Input(Refusal),
     // A write failed or took nothing.
     Write,
-    // The shelf has no file of this name.
-    Absent,
 }
 
-impl Refusal {
+impl RunRefusal {
     ghost use Rattle.std.specs.Prelude.{◌≡◌};
-    ghost use Rattle.edt_top.specs.Refusals.{status_of};
+    ghost use Rattle.edt_top.specs.RunRefusals.{run_status};
 
     pub fn status(&self) -> u8
-        ensures { result ≡ status_of self.now }
+        ensures { result ≡ run_status self.now }
     {
         match self {
-            Refusal::Problem(_) | Refusal::TooLong => 4,
-            Refusal::Memory => 6,
-            Refusal::Read => 7,
-            Refusal::Write => 8,
-            Refusal::Absent => 9,
+            RunRefusal::Problem(_) | RunRefusal::ProblemTooLong => 4,
+            RunRefusal::Input(refusal) => refusal.status(),
+            RunRefusal::Write => 8,
+        }
+    }
+}
+
+impl From<Refusal> for RunRefusal {
+    ghost from_gives = { λ refusal run. run ≡ Input refusal };
+
+    fn from(refusal: Refusal) -> RunRefusal {
+        RunRefusal::Input(refusal)
+    }
+}
+
+impl From<WriteFault> for RunRefusal {
+    ghost from_gives = { λ fault run. run ≡ refusal_of_write fault };
+
+    fn from(fault: WriteFault) -> RunRefusal {
+        match fault {
+            WriteFault::Failed => RunRefusal::Write,
+            WriteFault::Memory => RunRefusal::Input(Refusal::Memory),
         }
     }
 }

@@ -1,0 +1,2 @@
+-- Laws of runs that locate.
+pub mod OutcomeLaws
