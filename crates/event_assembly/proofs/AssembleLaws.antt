@@ -1,5 +1,5 @@
 -- The answer of `assemble`, by the answers of its parts.
-use Rattle.std.proofs.Common.{◌≡◌, ℕ, ◌*◌, Bool, true, false, List, [], ◌∷◌, ◌++◌, length, map, Option, Some, None, IfSome, Ok, refl, sym, ap, subst, ◌∙◌}
+use Rattle.std.proofs.Common.{◌≡◌, ℕ, ◌*◌, Bool, true, false, List, [], ◌∷◌, ◌++◌, length, map, Option, Some, None, IfSome, Ok, Err, refl, sym, ap, subst, ◌∙◌}
 use Rattle.std.specs.Prelude.{nat_lt}
 use Rattle.std.specs.Option.{option_map}
 use Rattle.edt_outside.specs.Shelves.{Files}
@@ -14,14 +14,15 @@ use Rattle.station_table.specs.Keys.{wanted_keys}
 use Rattle.event_assembly.specs.declared.assembly.Assembly.{Assembly}
 use Rattle.event_assembly.specs.declared.faults.AssembleFault.{AssembleFault}
 use Rattle.event_assembly.specs.declared.faults.AssembleFault.TheVariants.{Cells}
-use Rattle.event_assembly.specs.Answers.{IsRefusal, Assembles}
-use Rattle.event_assembly.specs.Assembling.{first_fault, keys_at, rows_of, assemble_fault, ArePrepared}
+use Rattle.event_assembly.specs.Answers.{IsTold}
+use Rattle.event_assembly.specs.Assembling.{first_fault, keys_at, rows_of, assemble_fault}
+use Rattle.event_assembly.specs.AssemblyValues.{event_value, event_of, events_of, values_by, unless_fault, assembly_of, assembly_value}
 use Rattle.event_assembly.specs.Headers.{header_of, header_fault, place_of_file, places_of}
 use Rattle.event_assembly.specs.Names.{header_name}
 use Rattle.event_assembly.specs.Inside.Planning.{place_of_header, places_of_headers}
-use Rattle.event_assembly.specs.Inside.Reads.{header_in}
+use Rattle.event_assembly.specs.Inside.Reads.{IsRefusal, header_in}
 use Rattle.event_assembly.specs.Rows.{cells_fault, row_keys, row_fault, row_times}
-use Rattle.event_assembly.proofs.FaultLaws.{first_fault-append, first_fault-before, refusal_by}
+use Rattle.event_assembly.proofs.FaultLaws.{first_fault-append, first_fault-before, refusal_by, told_weaker}
 
 -- the place of a header is that of its file
 place_is : (file : Option (List ℕ)) → place_of_header (option_map header_of file) ≡ place_of_file file
@@ -33,6 +34,14 @@ places_are : (files : Files) (control : ControlValues) (keys : List GridKey) →
 unfolding places_of header_in
 places_are files control [] = refl
 places_are files control (key ∷ keys) = rw (place_is (files (header_name control key)), places_are files control keys) refl
+
+-- a refusal by the first fault is what the files make of the events
+pub told_refusal : (files : Files) (control : ControlValues) (events : List (List Pick)) (fault : AssembleFault)
+    → IsRefusal (assemble_fault files control events) fault → IsTold (assembly_of files control events) (Err fault)
+unfolding assembly_of
+told_refusal files control events fault refused =
+    told_weaker (λ f. assemble_fault files control events ≡ Some f) (λ f. assembly_of files control events ≡ Err f)
+    (λ f some. ap (λ first. unless_fault first (values_by files control events)) some) fault refused
 
 -- a refused header refuses the events
 pub refused_headers : (told : Option Files) (control : ControlValues) (events : List (List Pick)) (keys : List GridKey) (fault : AssembleFault)
@@ -76,11 +85,11 @@ settled (Some files) control events keys headers rows wanted (none, found) numbe
 -- too many times refuse the events
 pub refused_cells : (told : Option Files) (control : ControlValues) (events : List (List Pick)) (keys : List GridKey) (rows : List ℕ) (past : Bool)
     → IfSome told (λ files. IsSettled files control events keys rows) → past ≡ nat_lt 20000000 (length rows * node_count control.frame.grid) → past ≡ true
-    → IfSome told (λ files. assemble_fault files control events ≡ Some Cells)
+    → IfSome told (λ files. IsTold (assembly_of files control events) (Err Cells))
 refused_cells None control events keys rows past known test is = tt
 refused_cells (Some files) control events keys rows past known test is =
     let over : nat_lt 20000000 (length rows * node_count control.frame.grid) ≡ true = sym test ∙ is in
-    known.fault_is ∙ rw over refl
+    told_refusal files control events Cells (known.fault_is ∙ rw over refl)
 
 -- the fault of the events is that of their rows
 rows_fault : (files : Files) (control : ControlValues) (events : List (List Pick)) (keys : List GridKey) (rows : List ℕ) (past : Bool)
@@ -101,6 +110,16 @@ refused_rows (Some files) now control events keys rows past fault same known tes
     let here : IsRefusal (first_fault (map (row_fault files control) (keys_at keys rows))) fault = rw same at refused in
     rw (rows_fault files control events keys rows past known test is) here
 
+-- the events that are made by the headers are those by the files
+made_events : (files : Files) (control : ControlValues) (events : List (List Pick)) (keys : List GridKey) (places : List Place) (rows : List ℕ)
+    → keys ≡ wanted_keys control events → places ≡ places_of files control keys → rows_of files control events ≡ rows
+    → map (event_of control keys places rows) events ≡ events_of files control events
+unfolding events_of
+made_events files control events keys places rows wanted at numbered =
+    ap (λ (ps : List Place). map (event_of control keys ps rows) events) at
+    ∙ ap (λ (rs : List ℕ). map (event_of control keys (places_of files control keys) rs) events) (sym numbered)
+    ∙ ap (λ (ks : List GridKey). map (event_of control ks (places_of files control ks) (rows_of files control events)) events) wanted
+
 -- the events are assembled
 pub assembled : (told now : Option Files) (control : ControlValues) (events : List (List Pick)) (keys : List GridKey) (headers : List (Option Header)) (rows : List ℕ)
     (past : Bool) (assembly : Assembly) → now ≡ told → keys ≡ wanted_keys control events
@@ -109,20 +128,17 @@ pub assembled : (told now : Option Files) (control : ControlValues) (events : Li
     → past ≡ nat_lt 20000000 (length rows * node_count control.frame.grid) → past ≡ false
     → IfSome now (λ files. (first_fault (map (row_fault files control) (keys_at keys rows)) ≡ None)
     × (assembly.field ≡ record { grid = control.frame.grid; rows = map (row_times files control) (keys_at keys rows) }))
-    → assembly.frame ≡ control.frame → ArePrepared control keys (places_of_headers headers) events assembly.events.items
-    → IfSome told (λ files. Assembles files control events (Ok assembly))
+    → assembly.frame ≡ control.frame → map event_value assembly.events.items ≡ map (event_of control keys (places_of_headers headers) rows) events
+    → IfSome told (λ files. IsTold (assembly_of files control events) (Ok assembly))
+unfolding assembly_of
 assembled None now control events keys headers rows past assembly same wanted read known test is made frame ready = tt
 assembled (Some files) now control events keys headers rows past assembly same wanted read known test is made frame ready =
     let here : (first_fault (map (row_fault files control) (keys_at keys rows)) ≡ None)
     × (assembly.field ≡ record { grid = control.frame.grid; rows = map (row_times files control) (keys_at keys rows) }) = rw same at made in
     let times : List GridKey → List ℕ → FieldTimes = λ ks rs. record { grid = control.frame.grid; rows = map (row_times files control) (keys_at ks rs) } in
     let places : places_of_headers headers ≡ places_of files control keys = ap places_of_headers read.1 ∙ places_are files control keys in
-    let at_places : ArePrepared control keys (places_of files control keys) events assembly.events.items =
-    subst (λ (ps : List Place). ArePrepared control keys ps events assembly.events.items) places ready in (
-      rows_fault files control events keys rows past known test is ∙ here.0,
-      record {
-        frame = frame;
-        field = here.1 ∙ ap (times keys) (sym known.rows_are) ∙ ap (λ (ks : List GridKey). times ks (rows_of files control events)) wanted;
-        prepared = subst (λ (ks : List GridKey). ArePrepared control ks (places_of files control ks) events assembly.events.items) wanted at_places;
-      },
-    )
+    let none : assemble_fault files control events ≡ None = rows_fault files control events keys rows past known test is ∙ here.0 in
+    let field = here.1 ∙ ap (times keys) (sym known.rows_are) ∙ ap (λ (ks : List GridKey). times ks (rows_of files control events)) wanted in
+    let prepared = ready ∙ made_events files control events keys (places_of_headers headers) rows wanted places known.rows_are in
+    let values : assembly_value assembly ≡ values_by files control events = λ j. record { frame = frame j; field = field j; events = prepared j } in
+    ap (λ first. unless_fault first (values_by files control events)) none ∙ ap (λ v. Ok v) (sym values)

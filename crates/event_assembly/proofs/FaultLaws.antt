@@ -3,19 +3,25 @@ use Rattle.std.proofs.Common.{◌≡◌, ℕ, zero, suc, List, [], ◌∷◌, �
 use Rattle.std.specs.List.{slice_get}
 use Rattle.event_assembly.specs.declared.faults.AssembleFault.{AssembleFault}
 use Rattle.event_assembly.specs.declared.faults.AssembleFault.TheVariants.{Absent, Failed, Header as faulty_header, HeaderLong, Body, Align, Cells, Memory}
-use Rattle.event_assembly.specs.Answers.{IsRefusal}
+use Rattle.event_assembly.specs.Inside.Reads.{IsRefusal}
+use Rattle.event_assembly.specs.Answers.{IfToldFault}
 use Rattle.event_assembly.specs.Assembling.{first_fault}
+
+-- what follows of each fault follows of those that the files tell
+pub told_weaker : (P Q : AssembleFault → Type 0) → ((fault : AssembleFault) → P fault → Q fault) → (fault : AssembleFault)
+    → IfToldFault P fault → IfToldFault Q fault
+told_weaker P Q weaker (Absent name) holds = weaker _ holds
+told_weaker P Q weaker (Failed name) holds = tt
+told_weaker P Q weaker (faulty_header name cause) holds = weaker _ holds
+told_weaker P Q weaker (HeaderLong name) holds = weaker _ holds
+told_weaker P Q weaker (Body name cause) holds = weaker _ holds
+told_weaker P Q weaker (Align name axis) holds = weaker _ holds
+told_weaker P Q weaker Cells holds = weaker _ holds
+told_weaker P Q weaker Memory holds = tt
 
 -- a refusal by a first fault is one by another first fault that is the same where there is one
 pub refusal_by : (a b : Option AssembleFault) (fault : AssembleFault) → ((f : AssembleFault) → a ≡ Some f → b ≡ Some f) → IsRefusal a fault → IsRefusal b fault
-refusal_by a b (Absent name) same h = same _ h
-refusal_by a b (Failed name) same h = tt
-refusal_by a b (faulty_header name cause) same h = same _ h
-refusal_by a b (HeaderLong name) same h = same _ h
-refusal_by a b (Body name cause) same h = same _ h
-refusal_by a b (Align name axis) same h = same _ h
-refusal_by a b Cells same h = same _ h
-refusal_by a b Memory same h = tt
+refusal_by a b fault same refused = told_weaker (λ f. a ≡ Some f) (λ f. b ≡ Some f) same fault refused
 
 -- where the first faults have none, it is that of the later ones
 pub first_fault-append : (xs ys : List (Option AssembleFault)) → first_fault xs ≡ None → first_fault (xs ++ ys) ≡ first_fault ys

@@ -1,5 +1,5 @@
 -- What is settled before any body is read.
-use Rattle.std.proofs.Common.{◌≡◌, ℕ, zero, suc, ◌+◌, ◌<◌, ◌≤◌, ◌^◌, Bool, true, false, List, [], ◌∷◌, length, get_or, map, Option, Some, None, IfSome, inl, inr, refl, sym, ap, subst, ◌∙◌, arith, pos}
+use Rattle.std.proofs.Common.{◌≡◌, ℕ, zero, suc, ◌+◌, ◌<◌, ◌≤◌, Bool, true, false, List, [], ◌∷◌, length, get_or, map, Option, Some, None, IfSome, inl, inr, refl, sym, ap, subst, ◌∙◌, arith, pos}
 use Rattle.std.specs.Prelude.{All, ◌||◌, ◌==◌, nat_lt, int_lt, unwrap_or, is_none, count_by}
 use Rattle.std.specs.List.{AllPairs, list_any, slice_get, slice_index, range_with_len}
 use Rattle.std.proofs.lemmas.Bool.{cases_Bool, and_parts, or_parts, eqb-true, eq-eqb, ltb-false}
@@ -7,34 +7,32 @@ use Rattle.std.proofs.lemmas.List.{get_or-map, length-map}
 use Rattle.std.proofs.lemmas.List.Elements.{All-head, All-tail, All-map, All-filter, All-same, filter_agree, filter_passes}
 use Rattle.std.proofs.lemmas.List.FromFn.{length-range_with_len, get_or-range_with_len}
 use Rattle.std.proofs.lemmas.List.Folds.{Any-from_list_any, list_any_at, list_any_none}
-use Rattle.std.proofs.lemmas.Option.{same_Some}
 use Rattle.edt_score.specs.declared.problem.ProblemPick.{ProblemPick}
 use Rattle.edt_score.specs.Field.{FieldTimes}
 use Rattle.edt_score.specs.Problem.{IsValidPick, AreNear as are_near_picks}
 use Rattle.grid_header.specs.declared.header.Header.{Header}
 use Rattle.grid_header.specs.Reading.{IsValidHeader}
 use Rattle.control_reader.specs.ControlValues.{ControlValues}
-use Rattle.phase_reader.specs.declared.phases.Event.{Event}
 use Rattle.phase_reader.specs.declared.phases.Pick.{Pick}
-use Rattle.phase_reader.specs.PhaseFile.{picks_of_events}
 use Rattle.station_table.specs.declared.keys.GridKey.{GridKey}
 use Rattle.station_table.specs.declared.keys.Place.{Place}
 use Rattle.station_table.specs.declared.keys.Place.TheVariants.{Absent}
 use Rattle.station_table.specs.declared.picks.Picks.{Picks}
 use Rattle.station_table.specs.declared.picks.Skip.{Skip}
 use Rattle.station_table.specs.declared.picks.UsedPick.{UsedPick}
-use Rattle.station_table.specs.Limits.{AreKeysOf, HoldsKeysOf, IsPlace, KeysDiffer}
+use Rattle.station_table.specs.Limits.{HoldsKeysOf, IsPlace}
 use Rattle.station_table.specs.Using.{is_absent, used_picks, skipped_picks}
 use Rattle.event_assembly.specs.declared.assembly.Case.{Case}
 use Rattle.event_assembly.specs.declared.assembly.Case.TheVariants.{Ready, Few, Many}
 use Rattle.event_assembly.specs.declared.assembly.Prepared.{Prepared}
 use Rattle.event_assembly.specs.declared.rows.Rows.{Rows}
-use Rattle.event_assembly.specs.Assembling.{ArePrepared, IsValidCase, AreValid, problem_in, problem_of, used_of_events}
+use Rattle.event_assembly.specs.Assembled.{IsPrepared, IsCaseOf, HasTime, problem_measures}
+use Rattle.event_assembly.specs.AssemblyValues.{EventValues, case_value, event_value, case_of, event_of, Ready as ready_value, Few as few_value, Many as many_value}
 use Rattle.event_assembly.specs.Answers.{has_no_grid, lacks_a_grid}
 use Rattle.event_assembly.specs.Cases.{is_s, is_few, is_many, is_ready}
-use Rattle.event_assembly.specs.Inside.Deciding.{AreDecided, AreKeysOfAll, AreUsed, AreNear}
+use Rattle.event_assembly.specs.Inside.Deciding.{AreDecided, AreUsed, AreNear}
 use Rattle.event_assembly.specs.Inside.Numbering.{needs_key, has_key, marked_keys, AreNumbered}
-use Rattle.event_assembly.specs.Inside.Problems.{problem_pick, problem_by, ArePreparedBy}
+use Rattle.event_assembly.specs.Inside.Problems.{problem_pick, case_by, event_by}
 use Rattle.event_assembly.specs.Inside.Planning.{place_of_header, places_of_headers}
 use Rattle.event_assembly.specs.Inside.Reads.{HasHeader, IsRowKey}
 use Rattle.event_assembly.specs.Rows.{uses_key, row_keys, row_of_key}
@@ -55,6 +53,19 @@ map_alike f g [] alike = refl
 map_alike f g (x ∷ xs) alike =
     let first : f x ≡ g x = All-head (λ y. f y ≡ g y) x xs alike in
     rw first (ap (λ ys. g x ∷ ys) (map_alike f g xs (All-tail (λ y. f y ≡ g y) x xs alike)))
+
+-- what is made of two things of items, where both are alike
+made_alike : {A B C D E : Type 0} (make : C → D → E) (f : A → C) (g : A → D) (h : B → C) (k : B → D) (xs : List A) (ys : List B)
+    → map f xs ≡ map h ys → map g xs ≡ map k ys → map (λ x. make (f x) (g x)) xs ≡ map (λ y. make (h y) (k y)) ys
+made_alike make f g h k [] [] one other = refl
+made_alike make f g h k [] (y ∷ ys) one other = absurd (cc one)
+made_alike make f g h k (x ∷ xs) [] one other = absurd (cc one)
+made_alike make f g h k (x ∷ xs) (y ∷ ys) one other =
+    let first : f x ≡ h y = cc one in
+    let second : g x ≡ k y = cc other in
+    let firsts : map f xs ≡ map h ys = cc one in
+    let seconds : map g xs ≡ map k ys = cc other in
+    rw (first, second) (ap (λ zs. make (h y) (k y) ∷ zs) (made_alike make f g h k xs ys firsts seconds))
 
 -- pairs of what is made of items
 pairs_map : {A B : Type 0} (R : A → A → Type 0) (S : B → B → Type 0) (f : A → B) → ((a b : A) → R a b → S (f a) (f b)) → (xs : List A) → AllPairs R xs
@@ -112,21 +123,42 @@ record ProblemParts (control : ControlValues) (row_of_key : List ℕ) (used : Li
   pub few : length used ≤ 256
 
 problem_parts : (control : ControlValues) (row_of_key : List ℕ) (used : List UsedPick) (picks : List ProblemPick)
-    → Some picks ≡ problem_by control row_of_key used → ProblemParts control row_of_key used picks
+    → ready_value picks ≡ case_by control row_of_key used → ProblemParts control row_of_key used picks
 problem_parts control row_of_key used picks made = elim (cases_Bool (is_few control used)) [
-  | inl few ↦ let none : Some picks ≡ None = rw few at made in absurd cc
+  | inl few ↦ let other : ready_value picks ≡ few_value = rw few at made in absurd cc
   | inr enough ↦
       elim (cases_Bool (is_many control used)) [
-        | inl many ↦ let none : Some picks ≡ None = rw (enough, many) at made in absurd cc
+        | inl many ↦ let other : ready_value picks ≡ many_value = rw (enough, many) at made in absurd cc
         | inr fits ↦
-            let some : Some picks ≡ Some (map (problem_pick row_of_key) used) = rw (enough, fits) at made in
+            let ready : ready_value picks ≡ ready_value (map (problem_pick row_of_key) used) = rw (enough, fits) at made in
             record {
               enough = enough;
               fits = fits;
-              is = same_Some picks (map (problem_pick row_of_key) used) some;
+              is = cc;
               two = at_least_two control used enough;
               few = at_most control used enough fits;
             }
+      ]
+]
+
+-- used picks that are few, and used picks that are many
+few_case : (control : ControlValues) (row_of_key : List ℕ) (used : List UsedPick) → few_value ≡ case_by control row_of_key used → is_few control used ≡ true
+few_case control row_of_key used made = elim (cases_Bool (is_few control used)) [
+  | inl few ↦ few
+  | inr enough ↦
+      elim (cases_Bool (is_many control used)) [
+        | inl many ↦ let other : few_value ≡ many_value = rw (enough, many) at made in absurd cc
+        | inr fits ↦ let other : few_value ≡ ready_value (map (problem_pick row_of_key) used) = rw (enough, fits) at made in absurd cc
+      ]
+]
+
+many_case : (control : ControlValues) (row_of_key : List ℕ) (used : List UsedPick) → many_value ≡ case_by control row_of_key used → is_many control used ≡ true
+many_case control row_of_key used made = elim (cases_Bool (is_few control used)) [
+  | inl few ↦ let other : many_value ≡ few_value = rw few at made in absurd cc
+  | inr enough ↦
+      elim (cases_Bool (is_many control used)) [
+        | inl many ↦ many
+        | inr fits ↦ let other : many_value ≡ ready_value (map (problem_pick row_of_key) used) = rw (enough, fits) at made in absurd cc
       ]
 ]
 
@@ -171,45 +203,41 @@ module _ (control : ControlValues) (keys : List GridKey) (places : List Place) (
         numbered.row_of_key pick.key (marked_by i d below j e within ready) in
         ap (λ (r : ℕ). pick_at r pick) row
 
-    -- so are problems
-    problem_alike : (i : ℕ) (d : Picks) → i < length decided
-        → problem_by control rows.row_of_key.items (get_or decided i d).used.items ≡ problem_of control rows.keys.items (get_or decided i d).used.items
-    problem_alike i d below = elim (cases_Bool (is_few control (get_or decided i d).used.items)) [
+    -- so are cases
+    case_alike : (i : ℕ) (d : Picks) → i < length decided
+        → case_by control rows.row_of_key.items (get_or decided i d).used.items ≡ case_of control rows.keys.items (get_or decided i d).used.items
+    case_alike i d below = elim (cases_Bool (is_few control (get_or decided i d).used.items)) [
       | inl few ↦ rw few refl
       | inr enough ↦
           elim (cases_Bool (is_many control (get_or decided i d).used.items)) [
             | inl many ↦ rw (enough, many) refl
             | inr fits ↦
                 rw (enough, fits)
-                (ap (λ (picks : List ProblemPick). Some picks)
+                (ap ready_value
                 (map_alike (problem_pick rows.row_of_key.items) (pick_by rows.keys.items) (get_or decided i d).used.items
                 (pick_alike i d below (ready_by control (get_or decided i d).used.items enough fits))))
           ]
     ]
 
     -- the events are prepared by the numbers of the rows
-    pub prepared_is : (prepared : List Prepared) → ArePreparedBy control rows.row_of_key.items decided prepared → ArePrepared control keys places events prepared
+    pub prepared_is : (prepared : List Prepared) → map event_value prepared ≡ map (event_by control rows.row_of_key.items) decided
+        → map event_value prepared ≡ map (event_of control keys places rows.keys.items) events
     prepared_is prepared by =
-        let used : Picks → List UsedPick = λ picks. picks.used.items in
-        let picks_in : Prepared → Picks = λ p. p.picks in
-        record {
-          used = sym (map_map used picks_in prepared) ∙ ap (map used) by.picks ∙ settled.used;
-          skipped = sym (map_map (λ (picks : Picks). picks.skipped.items) picks_in prepared) ∙ ap (map (λ (picks : Picks). picks.skipped.items)) by.picks ∙ settled.skipped;
-          few = by.few ∙ sym (map_map (is_few control) used decided) ∙ ap (map (is_few control)) settled.used;
-          problems = by.problems
-              ∙ map_alike (λ (picks : Picks). problem_by control rows.row_of_key.items picks.used.items)
-              (λ (picks : Picks). problem_of control rows.keys.items picks.used.items) decided problem_alike
-              ∙ sym (map_map (problem_of control rows.keys.items) used decided)
-              ∙ ap (map (problem_of control rows.keys.items)) settled.used
-              ∙ ap (λ (numbers : List ℕ). map (problem_of control numbers) (used_of_events control keys places events)) (numbered.keys ∙ marked_is);
-        }
+        let made : List UsedPick → List Skip → EventValues =
+        λ used skipped. record { used = used; skipped = skipped; case = case_of control rows.keys.items used } in
+        let by_numbers : Picks → EventValues = λ picks. made picks.used.items picks.skipped.items in
+        by
+        ∙ map_alike (event_by control rows.row_of_key.items) by_numbers decided
+        (λ i d below. λ j. record { used = (get_or decided i d).used.items; skipped = (get_or decided i d).skipped.items; case = case_alike i d below j })
+        ∙ made_alike made (λ (picks : Picks). picks.used.items) (λ (picks : Picks). picks.skipped.items) (used_picks control keys places)
+        (skipped_picks control keys places) decided events settled.used settled.skipped
 
-    -- a case is valid by the picks that it was made of
-    valid_case : (field : FieldTimes) → length field.rows ≡ length rows.keys.items → (i : ℕ) (d : Picks) → i < length decided → (case : Case)
-        → problem_in case ≡ problem_by control rows.row_of_key.items (get_or decided i d).used.items → IsValidCase field case
-    valid_case field one_each i d below Few made = tt
-    valid_case field one_each i d below Many made = tt
-    valid_case field one_each i d below (Ready problem) made =
+    -- a case is that of the picks that it was made of
+    case_is : (field : FieldTimes) → length field.rows ≡ length rows.keys.items → (i : ℕ) (d : Picks) → i < length decided → (case : Case)
+        → case_value case ≡ case_by control rows.row_of_key.items (get_or decided i d).used.items → IsCaseOf control field (get_or decided i d).used.items case
+    case_is field one_each i d below Few made = few_case control rows.row_of_key.items (get_or decided i d).used.items made
+    case_is field one_each i d below Many made = many_case control rows.row_of_key.items (get_or decided i d).used.items made
+    case_is field one_each i d below (Ready problem) made =
         let used : List UsedPick = (get_or decided i d).used.items in
         let limits = settled.limits i d below in
         let parts = problem_parts control rows.row_of_key.items used problem.picks.items made in
@@ -218,32 +246,46 @@ module _ (control : ControlValues) (keys : List GridKey) (places : List Place) (
         let two = parts.two in
         let few = parts.few in
         record {
-          two = omega arith;
-          few = omega arith;
-          picks = All-same (IsValidPick field) problem.picks.items (map (problem_pick rows.row_of_key.items) used) parts.is
-              (All-map (IsValidPick field) (problem_pick rows.row_of_key.items) used
-              (λ j e within.
-              let one = limits.limits j e within in
-              let row = numbered.below (get_or used j e).key (marked_by i d below j e within ready) in
-              record { some_weight = one.some_weight; weight = one.weight; variance = one.variance; row = omega arith }));
-          times = subst (AllPairs are_near_picks) (sym parts.is)
-              (pairs_map AreNear are_near_picks (problem_pick rows.row_of_key.items) (λ a b near. near) used limits.near);
+          ready = ready;
+          valid = record {
+            two = omega arith;
+            few = omega arith;
+            picks = All-same (IsValidPick field) problem.picks.items (map (problem_pick rows.row_of_key.items) used) parts.is
+                (All-map (IsValidPick field) (problem_pick rows.row_of_key.items) used
+                (λ j e within.
+                let one = limits.limits j e within in
+                let row = numbered.below (get_or used j e).key (marked_by i d below j e within ready) in
+                record { some_weight = one.some_weight; weight = one.weight; variance = one.variance; row = omega arith }));
+            times = subst (AllPairs are_near_picks) (sym parts.is)
+                (pairs_map AreNear are_near_picks (problem_pick rows.row_of_key.items) (λ a b near. near) used limits.near);
+          };
+          measures = ap (map problem_measures) parts.is ∙ map_map problem_measures (problem_pick rows.row_of_key.items) used;
         }
 
-    -- so all are
-    pub valid_is : (prepared : List Prepared) → ArePreparedBy control rows.row_of_key.items decided prepared → (field : FieldTimes)
-        → length field.rows ≡ length rows.keys.items → AreValid field prepared
-    valid_is prepared by field one_each i d below =
-        let by_picks : Picks → Option (List ProblemPick) = λ picks. problem_by control rows.row_of_key.items picks.used.items in
-        let problems : Prepared → Option (List ProblemPick) = λ p. problem_in p.case in
-        let same : length (map (λ (p : Prepared). p.picks) prepared) ≡ length decided = ap length by.picks in
-        let long = length-map prepared (λ (p : Prepared). p.picks) in
+    -- an event has the times and the case of the picks that it was made of
+    event_is : (field : FieldTimes) → length field.rows ≡ length rows.keys.items → (i : ℕ) (d : Picks) → i < length decided → (event : Prepared)
+        → event_value event ≡ event_by control rows.row_of_key.items (get_or decided i d) → IsPrepared control field event
+    event_is field one_each i d below event made =
+        let used : event.picks.used.items ≡ (get_or decided i d).used.items = ap (λ (e : EventValues). e.used) made in
+        let case : case_value event.case ≡ case_by control rows.row_of_key.items (get_or decided i d).used.items = ap (λ (e : EventValues). e.case) made in
+        record {
+          times = All-same HasTime event.picks.used.items (get_or decided i d).used.items used (λ j e within. ((settled.limits i d below).limits j e within).time);
+          case = subst (λ us. IsCaseOf control field us event.case) (sym used) (case_is field one_each i d below event.case case);
+        }
+
+    -- so have all
+    pub prepared_by : (prepared : List Prepared) → map event_value prepared ≡ map (event_by control rows.row_of_key.items) decided → (field : FieldTimes)
+        → length field.rows ≡ length rows.keys.items → All (IsPrepared control field) prepared
+    prepared_by prepared by field one_each i d below =
+        let each : Picks → EventValues = event_by control rows.row_of_key.items in
+        let long : length (map event_value prepared) ≡ length (map each decided) = ap length by in
+        let first = length-map prepared event_value in
+        let second = length-map decided each in
         let within : i < length decided = omega arith in
-        let at : get_or (map problems prepared) i (problems d) ≡ get_or (map by_picks decided) i (problems d) =
-        ap (λ (os : List (Option (List ProblemPick))). get_or os i (problems d)) by.problems in
-        let made : problem_in (get_or prepared i d).case ≡ by_picks (get_or decided i d.picks) =
-        sym (get_or-map problems prepared i d (problems d) below) ∙ at ∙ get_or-map by_picks decided i d.picks (problems d) within in
-        valid_case field one_each i d.picks within (get_or prepared i d).case made
+        let made : event_value (get_or prepared i d) ≡ each (get_or decided i d.picks) =
+        sym (get_or-map event_value prepared i d (event_value d) below) ∙ ap (λ es. get_or es i (event_value d)) by
+        ∙ get_or-map each decided i d.picks (event_value d) within in
+        event_is field one_each i d.picks within (get_or prepared i d) made
 
 -- what holds of what is made of items holds of the items
 All-unmap : {A B : Type 0} (P : B → Type 0) (f : A → B) (xs : List A) → All P (map f xs) → All (λ x. P (f x)) xs
@@ -303,17 +345,22 @@ no_absent [] none = refl
 no_absent (None ∷ headers) none = absurd cc
 no_absent (Some header ∷ headers) none = no_absent headers none
 
-module _ (control : ControlValues) (keys : List GridKey) (headers : List (Option Header)) (events : List (List Pick)) (prepared : List Prepared)
+module _ (control : ControlValues) (keys : List GridKey) (headers : List (Option Header)) (rows : List ℕ) (events : List (List Pick)) (prepared : List Prepared)
     (one_each : length keys ≡ length headers) (held : All (HoldsKeysOf control keys) events)
-    (ready : ArePrepared control keys (places_of_headers headers) events prepared) where
+    (ready : map event_value prepared ≡ map (event_of control keys (places_of_headers headers) rows) events) where
+  -- the picks that aren't used
+  skipped_is : map (λ (p : Prepared). p.picks.skipped.items) prepared ≡ map (skipped_picks control keys (places_of_headers headers)) events
+  skipped_is =
+      let skipped : EventValues → List Skip = λ e. e.skipped in
+      sym (map_map skipped event_value prepared) ∙ ap (map skipped) ready ∙ map_map skipped (event_of control keys (places_of_headers headers) rows) events
+
   -- where all headers are there, no pick lacks a grid
   no_grid_lacks : list_any is_none headers ≡ false → lacks_a_grid prepared ≡ false
   no_grid_lacks there =
-      let places = places_of_headers headers in
       let long : length keys ≡ length (places_of_headers headers) = one_each ∙ sym (length-map headers place_of_header) in
       let test : List Skip → Bool = λ skips. list_any (λ (s : Skip). has_no_grid s.reason) skips in
       let each : List Pick → List Skip = skipped_picks control keys (places_of_headers headers) in
-      sym (any_map test (λ (p : Prepared). p.picks.skipped.items) prepared) ∙ ap (list_any test) ready.skipped
+      sym (any_map test (λ (p : Prepared). p.picks.skipped.items) prepared) ∙ ap (list_any test) skipped_is
       ∙ list_any_none test (map each events)
       (All-map (λ (skips : List Skip). test skips ≡ false) each events
       (λ i d below. skipped_have_grids control keys (places_of_headers headers) long (no_absent headers there) (get_or events i d) (held i d below)))
@@ -324,32 +371,26 @@ module _ (control : ControlValues) (keys : List GridKey) (headers : List (Option
     | inr none ↦ let never = no_grid_lacks none in absurd cc
   ]
 
--- there are as many prepared events as events
-pub prepared_one_each : (control : ControlValues) (keys : List GridKey) (places : List Place) (events : List (List Pick)) (prepared : List Prepared)
-    → ArePrepared control keys places events prepared → length prepared ≡ length events
-prepared_one_each control keys places events prepared ready =
-    sym (length-map prepared (λ (p : Prepared). p.picks.used.items)) ∙ ap length ready.used ∙ length-map events (used_picks control keys places)
+  -- there are as many prepared events as events
+  pub prepared_one_each : length prepared ≡ length events
+  prepared_one_each =
+      sym (length-map prepared event_value) ∙ ap length ready ∙ length-map events (event_of control keys (places_of_headers headers) rows)
 
 -- the place of the source of a header is within the limits of places
 place_near : (header : Option Header) → IfSome header IsValidHeader → IsPlace (place_of_header header)
 place_near None valid = tt
 place_near (Some header) valid = (valid.sx, valid.sy)
 
--- the keys that each event needs, with their places
-pub keys_of_all : (control : ControlValues) (keys : List GridKey) (places : List Place) (headers : List (Option Header)) (events : List Event)
-    → places ≡ places_of_headers headers → length headers ≡ length keys → length keys < 2 ^ 32 → KeysDiffer keys
-    → All (λ (event : Event). HoldsKeysOf control keys event.picks.items) events → All (λ header. IfSome header IsValidHeader) headers
-    → AreKeysOfAll control keys places (picks_of_events events)
-keys_of_all control keys places headers events is one_each few differ held valid =
-    All-map (AreKeysOf control keys places) (λ (event : Event). event.picks.items) events
-    (λ i d below. record {
-      one_each = sym one_each ∙ sym (length-map headers place_of_header) ∙ ap length (sym is);
-      few = few;
-      differ = differ;
-      holds = held i d below;
-      near = All-same IsPlace places (places_of_headers headers) is
-          (All-map IsPlace place_of_header headers (λ j e within. place_near (get_or headers j e) (valid j e within)));
-    })
+-- so are those of valid headers
+pub places_near : (places : List Place) (headers : List (Option Header)) → places ≡ places_of_headers headers
+    → All (λ header. IfSome header IsValidHeader) headers → All IsPlace places
+places_near places headers is valid =
+    All-same IsPlace places (places_of_headers headers) is
+    (All-map IsPlace place_of_header headers (λ j e within. place_near (get_or headers j e) (valid j e within)))
+
+-- there is one for each header
+pub places_one_each : (places : List Place) (headers : List (Option Header)) → places ≡ places_of_headers headers → length places ≡ length headers
+places_one_each places headers is = ap length is ∙ length-map headers place_of_header
 
 -- the keys of used picks have places among the rows of keys
 pub keys_below : (keys rows : ℕ) (decided : List Picks) → All (AreUsed keys) decided → keys ≡ rows

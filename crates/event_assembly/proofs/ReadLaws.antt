@@ -5,7 +5,7 @@ use Rattle.std.specs.List.{slice_get}
 use Rattle.edt_outside.specs.Shelves.{Files}
 use Rattle.event_assembly.specs.declared.faults.AssembleFault.{AssembleFault}
 use Rattle.event_assembly.specs.declared.faults.AssembleFault.TheVariants.{Memory}
-use Rattle.event_assembly.specs.Answers.{IsRefusal}
+use Rattle.event_assembly.specs.Inside.Reads.{IsRefusal}
 use Rattle.event_assembly.specs.Assembling.{first_fault}
 use Rattle.event_assembly.proofs.FaultLaws.{none_more, refusal_here}
 use Rattle.event_assembly.proofs.ListLaws.{map_more, take_whole}

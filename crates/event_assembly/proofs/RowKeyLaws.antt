@@ -11,7 +11,7 @@ use Rattle.grid_header.specs.declared.header.Header.{Header}
 use Rattle.control_reader.specs.ControlValues.{ControlValues}
 use Rattle.station_table.specs.declared.keys.GridKey.{GridKey}
 use Rattle.event_assembly.specs.declared.faults.AssembleFault.{AssembleFault}
-use Rattle.event_assembly.specs.Answers.{IsRefusal}
+use Rattle.event_assembly.specs.Inside.Reads.{IsRefusal}
 use Rattle.event_assembly.specs.Assembling.{keys_at}
 use Rattle.event_assembly.specs.Headers.{header_of}
 use Rattle.event_assembly.specs.Names.{header_name, body_name}

@@ -21,7 +21,7 @@ use Rattle.control_reader.specs.ControlValues.{ControlValues}
 use Rattle.station_table.specs.declared.keys.GridKey.{GridKey}
 use Rattle.event_assembly.specs.declared.faults.AssembleFault.{AssembleFault}
 use Rattle.event_assembly.specs.declared.faults.AssembleFault.TheVariants.{Body}
-use Rattle.event_assembly.specs.Answers.{IsRefusal}
+use Rattle.event_assembly.specs.Inside.Reads.{IsRefusal}
 use Rattle.event_assembly.specs.Names.{body_name}
 use Rattle.event_assembly.specs.Inside.Reads.{body_refusal, ReadsTimes}
 use Rattle.event_assembly.specs.Rows.{byte_order, body_search_times, converted_time, times_for, fault_of_body, fault_of_row_file}

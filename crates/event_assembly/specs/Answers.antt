@@ -1,17 +1,16 @@
 -- Words on the answer of `assemble`.
-use Rattle.std.specs.Prelude.{◌≡◌, Bool, true, false, List, Option, Some, None, Result, Ok, Err}
+use Rattle.std.specs.Prelude.{◌≡◌, Bool, true, false, List, Result, Ok, Err, IsTrue}
 use Rattle.std.specs.List.{list_any}
-use Rattle.edt_outside.specs.Shelves.{Files}
-use Rattle.control_reader.specs.ControlValues.{ControlValues}
-use Rattle.phase_reader.specs.declared.phases.Pick.{Pick}
 use Rattle.station_table.specs.declared.picks.Reason.{Reason}
 use Rattle.station_table.specs.declared.picks.Reason.TheVariants.{Excluded, Weight0, ErrMag, Duplicate, NoGrid, Far, BeyondMax}
 use Rattle.station_table.specs.declared.picks.Skip.{Skip}
+use Rattle.time_grid.specs.declared.faults.GridFault.{GridFault}
+use Rattle.time_grid.specs.declared.faults.GridFault.TheVariants.{Absent as cause_absent, Failed as cause_failed, Short, Long, TimeLimit, Memory as cause_memory}
 use Rattle.event_assembly.specs.declared.assembly.Assembly.{Assembly}
 use Rattle.event_assembly.specs.declared.assembly.Prepared.{Prepared}
 use Rattle.event_assembly.specs.declared.faults.AssembleFault.{AssembleFault}
 use Rattle.event_assembly.specs.declared.faults.AssembleFault.TheVariants.{Absent, Failed, Header as faulty_header, HeaderLong, Body, Align, Cells, Memory}
-use Rattle.event_assembly.specs.Assembling.{IsAssembly, assemble_fault}
+use Rattle.event_assembly.specs.AssemblyValues.{AssemblyValues, assembly_value}
 
 -- the fault is `Failed`
 abbrev pub is_failed : AssembleFault → Bool
@@ -45,21 +44,41 @@ abbrev pub assemble_absent : {T : Type 0} → Result T AssembleFault → Bool
 assemble_absent (Ok _) = false
 assemble_absent (Err fault) = is_absent_fault fault
 
--- a refusal by the files: the first fault, but for failed calls and want of memory, which the files don't tell
-abbrev pub IsRefusal : Option AssembleFault → AssembleFault → Type 0
-IsRefusal first (Absent name) = first ≡ Some (Absent name)
-IsRefusal first (Failed name) = Unit {0}
-IsRefusal first (faulty_header name cause) = first ≡ Some (faulty_header name cause)
-IsRefusal first (HeaderLong name) = first ≡ Some (HeaderLong name)
-IsRefusal first (Body name cause) = first ≡ Some (Body name cause)
-IsRefusal first (Align name axis) = first ≡ Some (Align name axis)
-IsRefusal first Cells = first ≡ Some Cells
-IsRefusal first Memory = Unit {0}
+-- what is said of faults, but of failed calls and want of memory, which the files don't tell
+abbrev pub IfToldFault : (AssembleFault → Type 0) → AssembleFault → Type 0
+IfToldFault holds (Absent name) = holds (Absent name)
+IfToldFault holds (Failed name) = Unit {0}
+IfToldFault holds (faulty_header name cause) = holds (faulty_header name cause)
+IfToldFault holds (HeaderLong name) = holds (HeaderLong name)
+IfToldFault holds (Body name cause) = holds (Body name cause)
+IfToldFault holds (Align name axis) = holds (Align name axis)
+IfToldFault holds Cells = holds Cells
+IfToldFault holds Memory = Unit {0}
 
--- the answer by the files
-abbrev pub Assembles : Files → ControlValues → List (List Pick) → Result Assembly AssembleFault → Type 0
-Assembles files control events (Ok assembly) = (assemble_fault files control events ≡ None) × IsAssembly files control events assembly
-Assembles files control events (Err fault) = IsRefusal (assemble_fault files control events) fault
+-- an answer is what the files make of the events, but for failed calls and want of memory
+abbrev pub IsTold : Result AssemblyValues AssembleFault → Result Assembly AssembleFault → Type 0
+IsTold made (Ok assembly) = made ≡ Ok (assembly_value assembly)
+IsTold made (Err fault) = IfToldFault (λ told. made ≡ Err told) fault
+
+-- the bytes of a body, and no call of the shelf, give this cause
+abbrev pub is_body_cause : GridFault → Bool
+is_body_cause cause_absent = false
+is_body_cause cause_failed = false
+is_body_cause Short = true
+is_body_cause Long = true
+is_body_cause (TimeLimit node) = true
+is_body_cause cause_memory = false
+
+-- a refused body is refused for such a cause
+abbrev pub HasBodyCause : AssembleFault → Type 0
+HasBodyCause (Absent name) = Unit {0}
+HasBodyCause (Failed name) = Unit {0}
+HasBodyCause (faulty_header name cause) = Unit {0}
+HasBodyCause (HeaderLong name) = Unit {0}
+HasBodyCause (Body name cause) = IsTrue (is_body_cause cause)
+HasBodyCause (Align name axis) = Unit {0}
+HasBodyCause Cells = Unit {0}
+HasBodyCause Memory = Unit {0}
 
 -- a pick isn't used since there is no grid for it
 abbrev pub has_no_grid : Reason → Bool

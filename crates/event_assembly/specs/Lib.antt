@@ -3,5 +3,7 @@ pub mod Headers
 pub mod Cases
 pub mod Rows
 pub mod Assembling
+pub mod AssemblyValues
+pub mod Assembled
 pub mod Answers
 pub mod Inside

@@ -1,14 +1,13 @@
 //! The assembly of events.
-ghost use Rattle.std.specs.Prelude.{◌≡◌, ◌≤◌, ◌<◌, ◌^◌, IfOk, OnOk, OnSome, IfSome, IsTrue, All, Some, [], length, vec_len};
+ghost use Rattle.std.specs.Prelude.{◌≡◌, ◌≤◌, IfOk, IfErr, OnOk, OnSome, IfSome, IsTrue, All, Some, [], length};
 ghost use Rattle.edt_outside.specs.Counts.{Rose, RisesExactly};
 ghost use Rattle.control_reader.specs.Limits.{IsControl};
 ghost use Rattle.control_reader.specs.ControlValues.{values_of};
 ghost use Rattle.phase_reader.specs.Limits.{IsEvent};
 ghost use Rattle.phase_reader.specs.PhaseFile.{picks_of_events};
-ghost use Rattle.station_table.specs.Keys.{wanted_keys};
-ghost use Rattle.station_table.specs.Limits.{HoldsKeysOf, IsKey, KeysDiffer};
-ghost use Rattle.event_assembly.specs.Answers.{Assembles, assemble_failed, assemble_absent, lacks_a_grid};
-ghost use Rattle.event_assembly.specs.Assembling.{AreValid};
+ghost use Rattle.event_assembly.specs.Answers.{IsTold, HasBodyCause, assemble_failed, assemble_absent, lacks_a_grid};
+ghost use Rattle.event_assembly.specs.Assembled.{IsAssembled};
+ghost use Rattle.event_assembly.specs.AssemblyValues.{assembly_of};
 
 use crate::assembly::Assembly;
 use crate::bodies::read_rows;
@@ -19,11 +18,8 @@ use crate::rows::is_past_limit;
 use control_reader::Control;
 use edt_outside::Shelf;
 use phase_reader::Event;
-use station_table::{GridKey, wanted};
-use std::alloc::{AllocError, Global};
-
-/// The most keys that are numbered.
-const MOST_KEYS: usize = 0xffff_ffff;
+use station_table::wanted;
+use std::alloc::Global;
 
 /// Decides the picks of events and reads the times that they need.
 ///
@@ -32,8 +28,8 @@ const MOST_KEYS: usize = 0xffff_ffff;
 /// is streamed to the search nodes, and where its key is converted each time is multiplied by the ratio of the velocities, rounded. The
 /// first refusal in this order decides. These steps are this project's own.
 ///
-/// Memory for a row of times is taken before its body is opened, and one buffer of 65,536 bytes serves all bodies. Keys are numbered in
-/// 32 bits: more of them, which no phase file holds, are refused for want of memory.
+/// Memory for a row of times is taken before its body is opened, and one buffer of 65,536 bytes serves all bodies. There are at most
+/// 10,000 events, as `read_phases` answers them.
 pub fn assemble<S: Shelf>(
     alloc: Global,
     shelf: &mut S,
@@ -42,9 +38,12 @@ pub fn assemble<S: Shelf>(
 ) -> Result<Assembly, AssembleFault>
     requires control { IsControl control.now }
     requires events { All IsEvent events.now }
-    ensures told { IfSome (S.files shelf.old) (λ files. Assembles files (values_of control.now) (picks_of_events events.now) result) }
-    ensures valid { IfOk result (λ assembly. AreValid assembly.field assembly.events.items) }
-    ensures count { IfOk result (λ assembly. vec_len assembly.events ≡ length events.now) }
+    requires few { length events.now ≤ 10000 }
+    // What it answers is what the files make of the events, and an assembly holds together whatever the files are.
+    ensures told { IfSome (S.files shelf.old) (λ files. IsTold (assembly_of files (values_of control.now) (picks_of_events events.now)) result) }
+    ensures assembled { IfOk result (IsAssembled (values_of control.now) (length events.now)) }
+    ensures cause { IfErr result HasBodyCause }
+    // What becomes of the shelf.
     ensures ended { OnOk result (OnSome (S.files shelf.old) (S.left shelf.old ≡ Some [] → S.left shelf.new ≡ Some [])) }
     ensures same_files { S.files shelf.new ≡ S.files shelf.old }
     ensures faults { RisesExactly (assemble_failed result) (S.faults shelf.old) (S.faults shelf.new) }
@@ -53,7 +52,7 @@ pub fn assemble<S: Shelf>(
     ensures lacks { IfOk result (λ assembly. IsTrue (lacks_a_grid assembly.events.items) → Rose (S.lacks shelf.old) (S.lacks shelf.new)) }
     ensures calls { S.calls shelf.old ≤ S.calls shelf.new }
 {
-    let keys = numbered_keys(alloc, control, events)?;
+    let keys = wanted(alloc, control, events)?;
     let headers = read_headers(alloc, shelf, control, &keys)?;
     let plan = Plan::new(alloc, control, events, &keys, &headers)?;
     if is_past_limit(&plan.rows, control.frame.grid.nodes()) {
@@ -65,25 +64,4 @@ pub fn assemble<S: Shelf>(
         field,
         events: plan.events,
     })
-}
-
-// The wanted keys, which are numbered in 32 bits.
-fn numbered_keys(
-    alloc: Global,
-    control: &Control,
-    events: &[Event],
-) -> Result<Vec<GridKey>, AllocError>
-    requires control { IsControl control.now }
-    requires events { All IsEvent events.now }
-    ensures value { IfOk result (λ keys. keys.items ≡ wanted_keys (values_of control.now) (picks_of_events events.now)) }
-    ensures holds { IfOk result (λ keys. All (λ event. HoldsKeysOf (values_of control.now) keys.items event.picks.items) events.now) }
-    ensures differ { IfOk result (λ keys. KeysDiffer keys.items) }
-    ensures limits { IfOk result (λ keys. All IsKey keys.items) }
-    ensures few { IfOk result (λ keys. length keys.items < 2 ^ 32) }
-{
-    let keys = wanted(alloc, control, events)?;
-    if keys.len() > MOST_KEYS {
-        return Err(AllocError);
-    }
-    Ok(keys)
 }

@@ -1,5 +1,5 @@
 //! The bodies of the time grids that have a row of times.
-ghost use Rattle.std.specs.Prelude.{◌≡◌, ◌≤◌, ◌<◌, ◌<ℤ◌, ◌≤ℤ◌, ◌^◌, pos, [], IfOk, OnOk, OnSome, IfSome, All, Some, length, map, slice_get, unsigned_abs};
+ghost use Rattle.std.specs.Prelude.{◌≡◌, ◌≤◌, ◌<◌, ◌<ℤ◌, ◌≤ℤ◌, ◌^◌, pos, [], IfOk, IfErr, OnOk, OnSome, IfSome, All, Some, length, map, slice_get, unsigned_abs};
 ghost use Rattle.edt_outside.specs.Counts.{RisesExactly};
 ghost use Rattle.edt_score.specs.Field.{IsRow};
 ghost use Rattle.grid_header.specs.Reading.{IsValidHeader};
@@ -7,7 +7,7 @@ ghost use Rattle.node_boxes.specs.Grid.{node_count};
 ghost use Rattle.control_reader.specs.Limits.{IsControl};
 ghost use Rattle.control_reader.specs.ControlValues.{values_of};
 ghost use Rattle.station_table.specs.Limits.{IsKey};
-ghost use Rattle.event_assembly.specs.Answers.{assemble_failed, assemble_absent};
+ghost use Rattle.event_assembly.specs.Answers.{HasBodyCause, assemble_failed, assemble_absent};
 ghost use Rattle.event_assembly.specs.Assembling.{keys_at};
 ghost use Rattle.event_assembly.specs.Names.{body_name};
 ghost use Rattle.event_assembly.specs.Rows.{byte_order, by_ratio, times_for};
@@ -48,7 +48,9 @@ pub(crate) fn read_rows<S: Shelf>(
     requires few { length rows.now < 2 ^ 32 }
     requires rows { All (IsRowKey keys.now headers.now) rows.now }
     ensures told { IfSome (S.files shelf.old) (λ files. ReadsRows files (values_of control.now) (keys_at keys.now rows.now) result) }
+    ensures grid { IfOk result (λ field. field.grid ≡ control.now.frame.grid) }
     ensures one_each { IfOk result (λ field. length field.rows ≡ length rows.now) }
+    ensures cause { IfErr result HasBodyCause }
     ensures ended { OnOk result (OnSome (S.files shelf.old) (S.left shelf.old ≡ Some [] → S.left shelf.new ≡ Some [])) }
     ensures same_files { S.files shelf.new ≡ S.files shelf.old }
     ensures faults { RisesExactly (assemble_failed result) (S.faults shelf.old) (S.faults shelf.new) }
@@ -95,6 +97,7 @@ fn read_row<S: Shelf>(
     requires room { 4 ≤ length buffer.old }
     ensures told { IfSome (S.files shelf.old) (λ files. ReadsRow files (values_of control.now) key.now header.now result) }
     ensures row { IfOk result (λ times. IsRow control.now.frame.grid times.items) }
+    ensures cause { IfErr result HasBodyCause }
     ensures ended { OnOk result (OnSome (S.files shelf.old) (S.left shelf.new ≡ Some [])) }
     ensures same_files { S.files shelf.new ≡ S.files shelf.old }
     ensures faults { RisesExactly (assemble_failed result) (S.faults shelf.old) (S.faults shelf.new) }
@@ -126,6 +129,7 @@ fn read_times<S: Shelf>(
     requires places { length times.old ≡ node_count control.now.frame.grid }
     ensures told { IfSome (S.files shelf.old) (λ files. ReadsTimes files (values_of control.now) key.now header.now times.new result) }
     ensures row { OnOk result (IsRow control.now.frame.grid times.new) }
+    ensures cause { IfErr result HasBodyCause }
     ensures ended { OnOk result (OnSome (S.files shelf.old) (S.left shelf.new ≡ Some [])) }
     ensures same_files { S.files shelf.new ≡ S.files shelf.old }
     ensures faults { RisesExactly (assemble_failed result) (S.faults shelf.old) (S.faults shelf.new) }
@@ -161,7 +165,8 @@ fn byte_order(control: &Control) -> ByteOrder
 
 // The refusal of a body, by the fault of its stream.
 fn body_refusal(name: Name, fault: StreamFault) -> AssembleFault
-    ensures { result ≡ body_refusal name fault }
+    ensures value { result ≡ body_refusal name fault }
+    ensures cause { HasBodyCause result }
 {
     match fault {
         StreamFault::Absent => AssembleFault::Absent(name),

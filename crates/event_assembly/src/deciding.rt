@@ -1,15 +1,16 @@
 //! Which picks of each event are used, and whether they are enough.
-ghost use Rattle.std.specs.Prelude.{◌≡◌, IfOk, All, count_by, pos, int_lt};
+ghost use Rattle.std.specs.Prelude.{◌≡◌, ◌<◌, ◌^◌, IfOk, All, length, count_by, pos, int_lt};
 ghost use Rattle.control_reader.specs.Limits.{IsControl};
 ghost use Rattle.control_reader.specs.ControlValues.{values_of};
 ghost use Rattle.phase_reader.specs.Limits.{IsEvent};
 ghost use Rattle.phase_reader.specs.PhaseFile.{picks_of_events};
+ghost use Rattle.station_table.specs.Limits.{HoldsKeysOf, IsPlace, KeysDiffer};
 ghost use Rattle.event_assembly.specs.Cases.{is_few, is_ready, is_s};
-ghost use Rattle.event_assembly.specs.Inside.Deciding.{AreKeysOfAll, AreDecided};
+ghost use Rattle.event_assembly.specs.Inside.Deciding.{AreDecided};
 
 use control_reader::Control;
 use phase_reader::Event;
-use station_table::{GridKey, Picks, Place, UsedPick, use_picks};
+use station_table::{GridKey, KeyTable, Picks, Place, UsedPick};
 use std::alloc::{AllocError, Global};
 
 /// The most used picks of an event that is located.
@@ -25,12 +26,17 @@ pub(crate) fn decide(
 ) -> Result<Vec<Picks>, AllocError>
     requires control { IsControl control.now }
     requires events { All IsEvent events.now }
-    requires keys { AreKeysOfAll (values_of control.now) keys.now places.now (picks_of_events events.now) }
+    requires one_each { length keys.now ≡ length places.now }
+    requires few { length keys.now < 2 ^ 32 }
+    requires differ { KeysDiffer keys.now }
+    requires holds { All (λ event. HoldsKeysOf (values_of control.now) keys.now event.picks.items) events.now }
+    requires near { All IsPlace places.now }
     ensures { IfOk result (λ decided. AreDecided (values_of control.now) keys.now places.now (picks_of_events events.now) decided.items) }
 {
+    let mut table = KeyTable::new(alloc, control, keys, places)?;
     let mut decided = Vec::with_capacity(alloc, events.len())?;
     for event in events {
-        let picks = use_picks(alloc, control, event, keys, places)?;
+        let picks = table.use_picks(alloc, event)?;
         decided.push(picks)?;
     }
     Ok(decided)

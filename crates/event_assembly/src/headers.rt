@@ -1,12 +1,12 @@
 //! The headers of the time grids that are wanted.
-ghost use Rattle.std.specs.Prelude.{◌≡◌, ◌≤◌, [], IfOk, OnOk, OnSome, IfSome, IsTrue, All, Some, is_none, length};
+ghost use Rattle.std.specs.Prelude.{◌≡◌, ◌≤◌, [], IfOk, IfErr, OnOk, OnSome, IfSome, IsTrue, All, Some, is_none, length};
 ghost use Rattle.std.specs.List.{list_any};
 ghost use Rattle.text_terms.specs.Names.{is_name};
 ghost use Rattle.edt_outside.specs.Counts.{Rose, RisesExactly};
 ghost use Rattle.grid_header.specs.Reading.{IsValidHeader};
 ghost use Rattle.control_reader.specs.ControlValues.{values_of};
 ghost use Rattle.station_table.specs.Limits.{IsKey};
-ghost use Rattle.event_assembly.specs.Answers.{assemble_failed, assemble_absent};
+ghost use Rattle.event_assembly.specs.Answers.{HasBodyCause, assemble_failed, assemble_absent};
 ghost use Rattle.event_assembly.specs.Inside.Reads.{ReadsPresent, ReadsHeader, ReadsHeaders};
 
 use crate::faults::AssembleFault;
@@ -33,6 +33,7 @@ pub(crate) fn read_headers<S: Shelf>(
     ensures told { IfSome (S.files shelf.old) (λ files. ReadsHeaders files (values_of control.now) keys.now result) }
     ensures one_each { IfOk result (λ headers. length headers.items ≡ length keys.now) }
     ensures valid { IfOk result (λ headers. All (λ header. IfSome header IsValidHeader) headers.items) }
+    ensures cause { IfErr result HasBodyCause }
     ensures ended { OnOk result (OnSome (S.files shelf.old) (S.left shelf.old ≡ Some [] → S.left shelf.new ≡ Some [])) }
     ensures same_files { S.files shelf.new ≡ S.files shelf.old }
     ensures faults { RisesExactly (assemble_failed result) (S.faults shelf.old) (S.faults shelf.new) }
@@ -60,6 +61,7 @@ fn read_key_header<S: Shelf>(
     requires key { IsKey key.now }
     ensures told { IfSome (S.files shelf.old) (λ files. ReadsHeader files (values_of control.now) key.now result) }
     ensures valid { IfOk result (λ header. IfSome header IsValidHeader) }
+    ensures cause { IfErr result HasBodyCause }
     ensures ended { OnOk result (OnSome (S.files shelf.old) (S.left shelf.old ≡ Some [] → S.left shelf.new ≡ Some [])) }
     ensures same_files { S.files shelf.new ≡ S.files shelf.old }
     ensures faults { RisesExactly (assemble_failed result) (S.faults shelf.old) (S.faults shelf.new) }
@@ -81,6 +83,7 @@ fn read_key_header<S: Shelf>(
 fn read_present<S: Shelf>(alloc: Global, shelf: &mut S, name: Name) -> Result<Header, AssembleFault>
     ensures told { IfSome (S.files shelf.old) (λ files. IfSome (files name) (λ bytes. ReadsPresent name bytes result)) }
     ensures valid { IfOk result IsValidHeader }
+    ensures cause { IfErr result HasBodyCause }
     ensures ended { OnOk result (OnSome (S.files shelf.old) (S.left shelf.new ≡ Some [])) }
     ensures same_files { S.files shelf.new ≡ S.files shelf.old }
     ensures faults { RisesExactly (assemble_failed result) (S.faults shelf.old) (S.faults shelf.new) }

@@ -1,9 +1,8 @@
 //! The problems of events that are located.
 ghost use Rattle.std.specs.Prelude.{◌≡◌, ◌<◌, IfOk, All, length, map};
 ghost use Rattle.control_reader.specs.ControlValues.{values_of};
-ghost use Rattle.event_assembly.specs.Cases.{is_few};
-ghost use Rattle.event_assembly.specs.Assembling.{is_few_case, problem_in};
-ghost use Rattle.event_assembly.specs.Inside.Problems.{problem_by, problem_pick, ArePreparedBy};
+ghost use Rattle.event_assembly.specs.AssemblyValues.{case_value, event_value};
+ghost use Rattle.event_assembly.specs.Inside.Problems.{problem_pick, case_by, event_by};
 
 use crate::assembly::{Case, Prepared};
 use crate::deciding::{MOST_PICKS, is_few};
@@ -21,7 +20,7 @@ pub(crate) fn prepare(
     row_of_key: &[u32],
 ) -> Result<Vec<Prepared>, AllocError>
     requires { All (λ picks. All (λ pick. pick.key < length row_of_key.now) picks.used.items) decided.items }
-    ensures { IfOk result (λ prepared. ArePreparedBy (values_of control.now) row_of_key.now decided.items prepared.items) }
+    ensures { IfOk result (λ prepared. map event_value prepared.items ≡ map (event_by (values_of control.now) row_of_key.now) decided.items) }
 {
     let mut prepared = Vec::with_capacity(alloc, decided.len())?;
     for picks in decided {
@@ -40,8 +39,7 @@ fn case_of(
     row_of_key: &[u32],
 ) -> Result<Case, AllocError>
     requires { All (λ pick. pick.key < length row_of_key.now) used.now }
-    ensures few { IfOk result (λ case. is_few_case case ≡ is_few (values_of control.now) used.now) }
-    ensures problem { IfOk result (λ case. problem_in case ≡ problem_by (values_of control.now) row_of_key.now used.now) }
+    ensures { IfOk result (λ case. case_value case ≡ case_by (values_of control.now) row_of_key.now used.now) }
 {
     if is_few(control, used) {
         return Ok(Case::Few);

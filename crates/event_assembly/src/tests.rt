@@ -1,6 +1,6 @@
 //! Worked runs over files in memory: each refusal with its name, each limit at its last good and first bad value. The expected values were
 //! found apart from this code.
-ghost use Rattle.std.specs.Prelude.{◌≤◌, IfOk, All};
+ghost use Rattle.std.specs.Prelude.{◌≤◌, IfOk, All, length, vec_len};
 ghost use Rattle.control_reader.specs.Limits.{IsControl};
 ghost use Rattle.phase_reader.specs.Limits.{IsEvent};
 
@@ -83,7 +83,8 @@ fn control_of(alloc: Global, run: &Run) -> Result<Control, Fail>
 
 // The events of a line for each letter: a P pick at AAA or BBB, an S pick at AAA, or a blank line.
 fn events_of(alloc: Global, letters: &str) -> Result<Vec<Event>, Fail>
-    ensures { IfOk result (λ events. All IsEvent events.items) }
+    ensures events { IfOk result (λ events. All IsEvent events.items) }
+    ensures few { IfOk result (λ events. vec_len events ≤ 10000) }
 {
     let mut text = String::new(alloc);
     for letter in letters.as_bytes() {
@@ -99,7 +100,8 @@ fn events_of(alloc: Global, letters: &str) -> Result<Vec<Event>, Fail>
 
 // The events of a phase file.
 fn events_in(alloc: Global, text: &str) -> Result<Vec<Event>, Fail>
-    ensures { IfOk result (λ events. All IsEvent events.items) }
+    ensures events { IfOk result (λ events. All IsEvent events.items) }
+    ensures few { IfOk result (λ events. vec_len events ≤ 10000) }
 {
     if text.len() > 16_777_216 {
         return Err(Fail::from("long picks"));
@@ -214,6 +216,7 @@ fn answer_of(
 ) -> Result<String, Fail>
     requires control { IsControl control.now }
     requires events { All IsEvent events.now }
+    requires few { length events.now ≤ 10000 }
 {
     match assemble(alloc, shelf, control, events) {
         Ok(assembly) => assembly_text(alloc, &assembly),
@@ -691,7 +694,8 @@ fn large_headers(alloc: Global, stations: u32) -> Result<Vec<(Name, Vec<u8>)>, F
 
 // A P pick at each of so many stations.
 fn many_picks(alloc: Global, stations: u32) -> Result<Vec<Event>, Fail>
-    ensures { IfOk result (λ events. All IsEvent events.items) }
+    ensures events { IfOk result (λ events. All IsEvent events.items) }
+    ensures few { IfOk result (λ events. vec_len events ≤ 10000) }
 {
     let mut text = String::new(alloc);
     for station in 0..stations {

@@ -1,11 +1,11 @@
 -- A draft that takes one more pick.
-use Rattle.std.proofs.Common.{◌≡◌, ℕ, List, [], ◌∷◌, ◌++◌, Some, None, sym, ap, ◌∙◌}
+use Rattle.std.proofs.Common.{◌≡◌, ℕ, Bool, List, [], ◌∷◌, ◌++◌, Some, None, sym, subst, ap, ◌∙◌}
 use Rattle.std.specs.Prelude.{unwrap_or}
 use Rattle.std.proofs.lemmas.List.{append-nil}
 use Rattle.control_reader.specs.ControlValues.{values_of}
 use Rattle.phase_reader.specs.declared.phases.Pick.{Pick}
-use Rattle.station_table.specs.declared.draft.Draft.{Draft}
 use Rattle.station_table.specs.declared.draft.Rules.{Rules}
+use Rattle.station_table.specs.declared.picks.Picks.{Picks}
 use Rattle.station_table.specs.declared.picks.Reason.{Reason}
 use Rattle.station_table.specs.declared.picks.Skip.{Skip}
 use Rattle.station_table.specs.declared.picks.UsedPick.{UsedPick}
@@ -15,15 +15,20 @@ use Rattle.station_table.specs.Using.{used_picks, skipped_picks, reason_of, if_u
 use Rattle.station_table.proofs.UsingLaws.{used_push, skipped_push}
 
 -- of no picks none is used and none is skipped
-pub follows_none : (rules : Rules) (draft : Draft) → Notes rules [] draft.met.items → draft.picks.used.items ≡ [] → draft.picks.skipped.items ≡ [] → Follows rules [] draft
+pub follows_none : (rules : Rules) (met : List Bool) (picks : Picks) → Notes rules [] met → picks.used.items ≡ [] → picks.skipped.items ≡ [] → Follows rules [] met picks
 unfolding used_picks skipped_picks
-follows_none rules draft notes used skipped = record { notes = notes; used = used; skipped = skipped }
+follows_none rules met picks notes used skipped = record { notes = notes; used = used; skipped = skipped }
 
-module _ (rules : Rules) (before : List Pick) (pick : Pick) (old new : Draft) (follows : Follows rules before old) (notes : Notes rules (before ++ pick ∷ []) new.met.items) where
+-- what holds of a pick holds of the same pick
+pub of_same : (rules : Rules) (before : List Pick) (pick other : Pick) (noted : List Bool) (new : Picks) → pick ≡ other
+    → Follows rules (before ++ pick ∷ []) noted new → Follows rules (before ++ other ∷ []) noted new
+of_same rules before pick other noted new same follows = subst (λ p. Follows rules (before ++ p ∷ []) noted new) same follows
+
+module _ (rules : Rules) (before : List Pick) (pick : Pick) (met noted : List Bool) (old new : Picks) (follows : Follows rules before met old) (notes : Notes rules (before ++ pick ∷ []) noted) where
   -- a pick that has no reason is put behind the used ones
-  pub follows_used : (used : UsedPick) (place : ℕ) → new.picks.used.items ≡ old.picks.used.items ++ used ∷ [] → new.picks.skipped ≡ old.picks.skipped
+  pub follows_used : (used : UsedPick) (place : ℕ) → new.used.items ≡ old.used.items ++ used ∷ [] → new.skipped ≡ old.skipped
       → used ≡ used_pick_at (values_of rules.control.now) pick place → key_place rules.index (key_of (values_of rules.control.now) pick) ≡ Some place
-      → reason_of (values_of rules.control.now) rules.index rules.places.now before pick ≡ None → Follows rules (before ++ pick ∷ []) new
+      → reason_of (values_of rules.control.now) rules.index rules.places.now before pick ≡ None → Follows rules (before ++ pick ∷ []) noted new
   follows_used used place more same is at none =
       let control = values_of rules.control.now in
       let keys = rules.index in
@@ -40,9 +45,9 @@ module _ (rules : Rules) (before : List Pick) (pick : Pick) (old new : Draft) (f
       }
 
   -- and one that has a reason is put behind the skipped ones
-  pub follows_skipped : (skipped : Skip) (reason : Reason) → new.picks.skipped.items ≡ old.picks.skipped.items ++ skipped ∷ [] → new.picks.used ≡ old.picks.used
+  pub follows_skipped : (skipped : Skip) (reason : Reason) → new.skipped.items ≡ old.skipped.items ++ skipped ∷ [] → new.used ≡ old.used
       → skipped ≡ skip (values_of rules.control.now) pick reason
-      → reason_of (values_of rules.control.now) rules.index rules.places.now before pick ≡ Some reason → Follows rules (before ++ pick ∷ []) new
+      → reason_of (values_of rules.control.now) rules.index rules.places.now before pick ≡ Some reason → Follows rules (before ++ pick ∷ []) noted new
   follows_skipped skipped reason more same is some =
       let control = values_of rules.control.now in
       let keys = rules.index in

@@ -1,3 +1,4 @@
+mod CountLaws
 mod DecideLaws
 mod DraftLaws
 mod KeyLaws
@@ -7,4 +8,5 @@ mod MetLaws
 mod NameLaws
 mod ReasonLaws
 mod SeenLaws
+mod StampLaws
 mod UsingLaws

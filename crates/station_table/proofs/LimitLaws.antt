@@ -12,7 +12,7 @@ use Rattle.control_reader.specs.ControlValues.{values_of}
 use Rattle.control_reader.specs.Limits.{IsControl, IsDelay}
 use Rattle.control_reader.specs.declared.control.Control.{Control}
 use Rattle.control_reader.specs.declared.control.Delay.{Delay}
-use Rattle.phase_reader.specs.Limits.{AreNear, AreNearFirst}
+use Rattle.phase_reader.specs.Limits.{AreNear, AreNearFirst, IsPick}
 use Rattle.phase_reader.specs.declared.phases.Pick.{Pick}
 use Rattle.station_table.specs.declared.keys.GridKey.{GridKey}
 use Rattle.station_table.specs.declared.keys.Place.{Place}
@@ -65,25 +65,33 @@ module _ (control : Control) (limits : IsControl control) (keys : List GridKey) 
       let test : Delay → Bool = λ d. bytes_eq d.station station && bytes_eq d.phase phase in
       found_delay (find test control.delays.items) (find-All IsDelay test control.delays.items limits.delays)
 
+  -- a pick within its limits has its key among the keys
+  abbrev HasKey : Pick → Type 0
+  HasKey pick = IsPick pick × HoldsKeyOf (values_of control) keys pick
+
   -- a used pick is within its limits
-  pick_within : (before : List Pick) (pick : Pick) → HoldsKeyOf (values_of control) keys pick
+  pick_within : (before : List Pick) (pick : Pick) → HasKey pick
       → reason_of (values_of control) keys places before pick ≡ None → IsUsedPick (length keys) (used_pick (values_of control) keys pick)
   unfolding used_pick_at
-  pick_within before pick holds none =
+  pick_within before pick (is, holds) none =
+      let time = is.time in
+      let delay = delay_within (station_of (values_of control) pick) (phase_of (values_of control) pick) in
       let early = none_early (values_of control) keys places before pick none in
       let weight : IsTrue (int_lt (pos 0) pick.weight) = weight_above (values_of control) pick early in
       let some : 1 ≤ unsigned_abs pick.weight = grind (arith, ints) in
       record {
         key = key_within keys (key_of (values_of control) pick) (holds (rw early refl));
+        time = omega (arith, ints);
         some_weight = omega arith;
         weight = omega arith;
         variance = squares control.sigma (unsigned_abs pick.error) limits.sigma (error_within (values_of control) pick early);
       }
 
-  pub used_within : (picks : List Pick) → HoldsKeysOf (values_of control) keys picks → All (IsUsedPick (length keys)) (used_picks (values_of control) keys places picks)
-  used_within picks holds =
-      used_all (values_of control) keys places (IsUsedPick (length keys))
-      (HoldsKeyOf (values_of control) keys) pick_within picks holds
+  pub used_within : (picks : List Pick) → All IsPick picks → HoldsKeysOf (values_of control) keys picks
+      → All (IsUsedPick (length keys)) (used_picks (values_of control) keys places picks)
+  used_within picks are holds =
+      used_all (values_of control) keys places (IsUsedPick (length keys)) HasKey pick_within picks
+      (λ i d below. (are i d below, holds i d below))
 
   -- times of used picks of an event lie near each other
   abbrev IsNear : ℤ → UsedPick → Type 0

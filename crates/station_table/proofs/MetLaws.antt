@@ -1,9 +1,9 @@
 -- What is noted of the keys of picks.
-use Rattle.std.proofs.Common.{◌≡◌, ℕ, ◌<◌, Bool, true, false, List, [], ◌∷◌, ◌++◌, length, get_or, set, Some, None, Option, inl, inr, refl, sym, ap, ◌∙◌, arith}
+use Rattle.std.proofs.Common.{◌≡◌, ℕ, ◌<◌, Bool, true, false, List, [], ◌∷◌, ◌++◌, length, get_or, set, replicate, Some, None, Option, inl, inr, refl, sym, ap, ◌∙◌, arith}
 use Rattle.std.specs.Prelude.{◌==◌, ◌&&◌, ◌||◌}
 use Rattle.std.specs.List.{list_any}
 use Rattle.std.proofs.lemmas.Bool.{cases_Bool, cases_eq, and_parts, and_from, or_right, false_from_ne_true, eqb-true, eq-eqb, ne_eqb}
-use Rattle.std.proofs.lemmas.List.{length-set, get_or-set_same, get_or-set_other}
+use Rattle.std.proofs.lemmas.List.{length-replicate, get_or-replicate, length-set, get_or-set_same, get_or-set_other}
 use Rattle.std.proofs.lemmas.List.Folds.{list_any-append}
 use Rattle.std.proofs.lemmas.List.Quantifiers.{position-Some}
 use Rattle.std.proofs.lemmas.Slice.Eq.{bytes_eq-Decides}
@@ -99,9 +99,12 @@ module _ (control : ControlValues) (keys : List GridKey) where
       (λ earlier. ap (λ b. is_wanted control earlier && b) (at_is_phase earlier pick p at)) before)
 
 -- nothing is noted of no picks
-pub notes_none : (rules : Rules) (met : List Bool) → length met ≡ length rules.index → ((place : ℕ) → place < length rules.index → get_or met place false ≡ false) → Notes rules [] met
+pub notes_none : (rules : Rules) → Notes rules [] (replicate (length rules.index) false)
 unfolding is_met
-notes_none rules met same none = record { one_each = same; noted = none }
+notes_none rules = record {
+  one_each = length-replicate (length rules.index) false;
+  noted = λ place below. get_or-replicate (length rules.index) place false false below;
+}
 
 -- a pick that may need a grid notes its key
 pub notes_wanted : (rules : Rules) (before : List Pick) (pick : Pick) (met : List Bool) (p : ℕ) → is_wanted (values_of rules.control.now) pick ≡ true

@@ -4,4 +4,5 @@ pub mod Keys
 pub mod Distances
 pub mod Using
 pub mod Limits
+pub mod KeyTables
 pub mod Inside

@@ -35,9 +35,10 @@ pub record AreKeysOf (control : ControlValues) (keys : List GridKey) (places : L
   pub holds : HoldsKeysOf control keys event
   pub near : All IsPlace places
 
--- a used pick has a key among so many, a weight and a variance within their limits
+-- a used pick has a key among so many, and a time, a weight and a variance within their limits
 pub record IsUsedPick (keys : ℕ) (pick : UsedPick) : Type 0 where
   pub key : pick.key < keys
+  pub time : unsigned_abs pick.time ≤ 4 * 10 ^ 17
   pub some_weight : 1 ≤ pick.weight
   pub weight : pick.weight ≤ 2000
   pub variance : pick.variance ≤ 2 * 10 ^ 16

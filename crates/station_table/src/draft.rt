@@ -1,31 +1,31 @@
 //! The picks of an event, decided one after the other.
-ghost use Rattle.std.specs.Prelude.{◌≡◌, ◌≤◌, ◌<◌, ◌^◌, ◌+◌, ◌*◌, ◌++◌, ◌∷◌, [], true, false, min, pos, int_lt, ℕ, List, All, length, get_or, unsigned_abs, slice_set, Some, None, IsTrue, IfOk, OnOk};
-ghost use Rattle.std.specs.List.{list_any};
+ghost use Rattle.std.specs.Prelude.{◌≡◌, ◌≤◌, ◌<◌, ◌^◌, ◌+◌, ◌*◌, ◌-ℤ◌, ◌++◌, ◌∷◌, [], false, min, pos, int_lt, List, All, length, replicate, unsigned_abs, Some, None, IsTrue, IfOk, OnOk};
+ghost use Rattle.std.specs.List.{AllPairs};
 ghost use Rattle.std.specs.Result.{result_err};
 ghost use Rattle.control_reader.specs.ControlValues.{values_of};
 ghost use Rattle.control_reader.specs.Limits.{IsControl};
 ghost use Rattle.phase_reader.specs.declared.phases.Pick.{Pick};
-ghost use Rattle.phase_reader.specs.Limits.{IsPick};
+ghost use Rattle.phase_reader.specs.Limits.{IsEvent, IsPick};
 ghost use Rattle.station_table.specs.Inside.Drafts.{AreRules, Notes, Follows};
-ghost use Rattle.station_table.specs.Keys.{key_of, key_place, same_key, is_wanted};
-ghost use Rattle.station_table.specs.Limits.{HoldsKeyOf, IsPlace, KeysDiffer};
+ghost use Rattle.station_table.specs.Inside.Named.{IsNamed};
+ghost use Rattle.station_table.specs.Keys.{key_of, key_place};
+ghost use Rattle.station_table.specs.Limits.{HoldsKeyOf, HoldsKeysOf, IsPlace, IsUsedPick, KeysDiffer};
 ghost use Rattle.station_table.specs.Reasons as reasons;
-ghost use Rattle.station_table.specs.Stations as spec;
-ghost use Rattle.station_table.specs.Using.{reason_of, used_pick_at, skip as skip_of};
+ghost use Rattle.station_table.specs.Using.{reason_of, used_picks, used_pick_at, ArePicksOf};
 
 use crate::key_index::KeyIndex;
 use crate::key_words::KeyWords;
 use crate::keys::{GridKey, Place};
+use crate::met_keys::MetKeys;
+use crate::named_pick::NamedPick;
 use crate::picks::{Picks, Reason, Skip, UsedPick};
-use crate::reasons::{early_reason, late_reason};
-use crate::stations::{delay_of, phase_of, station_of};
+use crate::reasons::late_reason;
+use crate::stations::delay_of;
 use control_reader::Control;
-use edt_text::Name;
-use phase_reader::Pick;
+use phase_reader::{Event, Pick};
 use std::alloc::{AllocError, Global};
-use std::mem;
 
-/// What the picks of an event are decided by: the control, the keys, and for each key the place of its source.
+/// What the picks of events are decided by: the control, the keys, and for each key the place of its source.
 #[derive(Drop)]
 pub(crate) struct Rules<'a> {
     control: &'a Control,
@@ -59,94 +59,85 @@ impl<'a> Rules<'a> {
     }
 }
 
-/// The picks so far, and for each key whether a pick that may need its grid was met.
-#[derive(Drop)]
-pub(crate) struct Draft {
-    met: Vec<bool>,
-    picks: Picks,
+/// The picks of an event, decided by the rules. No key was met before.
+pub(crate) fn draft_picks(
+    alloc: Global,
+    rules: &Rules,
+    met: &mut MetKeys,
+    event: &Event,
+) -> Result<Picks, AllocError>
+    requires rules { AreRules rules.now }
+    requires met { met.old ≡ replicate (length rules.now.index) false }
+    requires event { IsEvent event.now }
+    requires holds { HoldsKeysOf (values_of rules.now.control.now) rules.now.index event.now.picks.items }
+    ensures value { IfOk result (ArePicksOf (values_of rules.now.control.now) rules.now.index rules.now.places.now event.now.picks.items) }
+    ensures near { IfOk result (λ picks. AllPairs (λ a b. unsigned_abs (a.time -ℤ b.time) ≤ 2200000000000) picks.used.items) }
+    ensures limits { IfOk result (λ picks. All (IsUsedPick (length rules.now.index)) picks.used.items) }
+    ensures one_each { length met.new ≡ length met.old }
+{
+    let mut picks = Picks {
+        used: Vec::with_capacity(alloc, event.picks.len())?,
+        skipped: Vec::new(alloc),
+    };
+    for pick in &event.picks {
+        take_pick(alloc, rules, met, pick, &mut picks)?;
+    }
+    Ok(picks)
 }
 
-impl Draft {
-    /// The draft of no picks, with room for so many.
-    pub(crate) fn new(alloc: Global, rules: &Rules, count: usize) -> Result<Draft, AllocError>
-        ensures { IfOk result (Follows rules.now []) }
-    {
-        Ok(Draft {
-            met: vec![in alloc; false; rules.index.len()]?,
-            picks: Picks {
-                used: Vec::with_capacity(alloc, count)?,
-                skipped: Vec::new(alloc),
-            },
-        })
-    }
-
-    /// The picks.
-    pub(crate) fn finish(self) -> Picks
-        ensures { result ≡ self.picks }
-    {
-        self.picks
-    }
-
-    /// Takes one more pick. Where memory is wanting the draft is of no use.
-    pub(crate) fn take_pick(
-        &mut self,
-        alloc: Global,
-        rules: &Rules,
-        pick: &Pick,
-    ) -> Result<(), AllocError>
-        requires rules { AreRules rules.now }
-        requires met { length self.old.met.items ≡ length rules.now.index }
-        requires pick { IsPick pick.now }
-        requires key { HoldsKeyOf (values_of rules.now.control.now) rules.now.index pick.now }
-        ensures { OnOk result ((before : List Pick) → Follows rules.now before self.old → Follows rules.now (before ++ pick.now ∷ []) self.new) }
-    {
-        let (station, phase) = (
-            station_of(rules.control, pick),
-            phase_of(rules.control, pick),
-        );
-        match self.decide(rules, pick, station, phase) {
-            Ok(place) => {
-                let used = used_pick(alloc, rules.control, pick, station, phase, place)?;
-                self.picks.used.push(used)?;
-            }
-            Err(reason) => {
-                let skipped = skip(alloc, pick, station, phase, reason)?;
-                self.picks.skipped.push(skipped)?;
-            }
+// Takes one more pick into the picks so far. Where memory is wanting they are of no use.
+fn take_pick(
+    alloc: Global,
+    rules: &Rules,
+    met: &mut MetKeys,
+    pick: &Pick,
+    picks: &mut Picks,
+) -> Result<(), AllocError>
+    requires rules { AreRules rules.now }
+    requires one_each { length met.old ≡ length rules.now.index }
+    requires pick { IsPick pick.now }
+    requires key { HoldsKeyOf (values_of rules.now.control.now) rules.now.index pick.now }
+    ensures one_each { length met.new ≡ length met.old }
+    ensures picks { OnOk result ((before : List Pick) → Follows rules.now before met.old picks.old → Follows rules.now (before ++ pick.now ∷ []) met.new picks.new) }
+{
+    let named = NamedPick::of(rules.control, pick);
+    match decide(rules, met, &named, picks.used.len()) {
+        Ok(place) => {
+            let used = used_pick(alloc, rules.control, &named, place)?;
+            picks.used.push(used)?;
         }
-        Ok(())
-    }
-
-    // The place of the key of a pick that is used, or the first reason why it isn't.
-    fn decide(
-        &mut self,
-        rules: &Rules,
-        pick: &Pick,
-        station: &Name,
-        phase: &Name,
-    ) -> Result<usize, Reason>
-        requires rules { AreRules rules.now }
-        requires met { length self.old.met.items ≡ length rules.now.index }
-        requires station { station.now ≡ spec.station_of (values_of rules.now.control.now) pick.now }
-        requires phase { phase.now ≡ spec.phase_of (values_of rules.now.control.now) pick.now }
-        requires key { HoldsKeyOf (values_of rules.now.control.now) rules.now.index pick.now }
-        ensures picks { self.new.picks ≡ self.old.picks }
-        ensures notes { (before : List Pick) → Notes rules.now before self.old.met.items → Notes rules.now (before ++ pick.now ∷ []) self.new.met.items }
-        ensures reason { (before : List Pick) → Follows rules.now before self.old → result_err result ≡ reason_of (values_of rules.now.control.now) rules.now.index rules.now.places.now before pick.now }
-        ensures place { IfOk result (λ place. key_place rules.now.index (key_of (values_of rules.now.control.now) pick.now) ≡ Some place) }
-        ensures within { IfOk result (λ place. place < length rules.now.index) }
-        ensures good { IfOk result (λ _. reasons.early_reason (values_of rules.now.control.now) pick.now ≡ None) }
-    {
-        if let Some(reason) = early_reason(rules.control, pick, station, phase) {
-            return Err(reason);
+        Err(reason) => {
+            let skipped = skip(alloc, &named, reason)?;
+            picks.skipped.push(skipped)?;
         }
-        let key = KeyWords::for_phase(rules.control, station, phase);
-        let place = rules.index.place(&key);
-        let is_met = mem::replace(&mut self.met[place], true);
-        let source = &rules.places[place];
-        match late_reason(rules.control, is_met, source, self.picks.used.len()) {
-            Some(reason) => Err(reason),
-            None => Ok(place),
+    }
+    Ok(())
+}
+
+// The place of the key of a pick that is used, or the first reason why it isn't, where so many picks before it are used.
+fn decide(rules: &Rules, met: &mut MetKeys, named: &NamedPick, used: usize) -> Result<usize, Reason>
+    requires rules { AreRules rules.now }
+    requires one_each { length met.old ≡ length rules.now.index }
+    requires named { IsNamed (values_of rules.now.control.now) named.now }
+    requires key { HoldsKeyOf (values_of rules.now.control.now) rules.now.index named.now.pick.now }
+    ensures notes { (before : List Pick) → Notes rules.now before met.old → Notes rules.now (before ++ named.now.pick.now ∷ []) met.new }
+    ensures one_each { length met.new ≡ length met.old }
+    ensures reason { (before : List Pick) → Notes rules.now before met.old → used ≡ length (used_picks (values_of rules.now.control.now) rules.now.index rules.now.places.now before)
+        → result_err result ≡ reason_of (values_of rules.now.control.now) rules.now.index rules.now.places.now before named.now.pick.now }
+    ensures place { IfOk result (λ place. key_place rules.now.index (key_of (values_of rules.now.control.now) named.now.pick.now) ≡ Some place) }
+    ensures within { IfOk result (λ place. place < length rules.now.index) }
+    ensures good { IfOk result (λ _. reasons.early_reason (values_of rules.now.control.now) named.now.pick.now ≡ None) }
+{
+    match named.reason {
+        Some(reason) => Err(reason),
+        None => {
+            let key = KeyWords::for_phase(rules.control, named.station, named.phase);
+            let place = rules.index.place(&key);
+            let is_met = met.meet(place);
+            match late_reason(rules.control, is_met, &rules.places[place], used) {
+                Some(reason) => Err(reason),
+                None => Ok(place),
+            }
         }
     }
 }
@@ -155,24 +146,22 @@ impl Draft {
 fn used_pick(
     alloc: Global,
     control: &Control,
-    pick: &Pick,
-    station: &Name,
-    phase: &Name,
+    named: &NamedPick,
     place: usize,
 ) -> Result<UsedPick, AllocError>
     requires control { IsControl control.now }
-    requires pick { IsPick pick.now }
-    requires station { station.now ≡ spec.station_of (values_of control.now) pick.now }
-    requires phase { phase.now ≡ spec.phase_of (values_of control.now) pick.now }
-    requires good { reasons.early_reason (values_of control.now) pick.now ≡ None }
+    requires named { IsNamed (values_of control.now) named.now }
+    requires pick { IsPick named.now.pick.now }
+    requires good { reasons.early_reason (values_of control.now) named.now.pick.now ≡ None }
     requires place { place < 2 ^ 32 }
-    ensures { IfOk result (λ used. used ≡ used_pick_at (values_of control.now) pick.now place) }
+    ensures { IfOk result (λ used. used ≡ used_pick_at (values_of control.now) named.now.pick.now place) }
 {
-    let time = pick.time - delay_of(control, station, phase);
+    let pick = named.pick;
+    let time = pick.time - delay_of(control, named.station, named.phase);
     Ok(UsedPick {
         line: pick.line,
-        station: station.copy(alloc)?,
-        phase: phase.copy(alloc)?,
+        station: named.station.copy(alloc)?,
+        phase: named.phase.copy(alloc)?,
         time,
         weight: weight_of(pick),
         variance: variance_of(control, pick),
@@ -181,19 +170,13 @@ fn used_pick(
 }
 
 // A pick that isn't.
-fn skip(
-    alloc: Global,
-    pick: &Pick,
-    station: &Name,
-    phase: &Name,
-    reason: Reason,
-) -> Result<Skip, AllocError>
-    ensures { IfOk result (λ skip. skip ≡ record { line = pick.now.line; station = station.now; phase = phase.now; reason = reason }) }
+fn skip(alloc: Global, named: &NamedPick, reason: Reason) -> Result<Skip, AllocError>
+    ensures { IfOk result (λ skip. skip ≡ record { line = named.now.pick.now.line; station = named.now.station.now; phase = named.now.phase.now; reason = reason }) }
 {
     Ok(Skip {
-        line: pick.line,
-        station: station.copy(alloc)?,
-        phase: phase.copy(alloc)?,
+        line: named.pick.line,
+        station: named.station.copy(alloc)?,
+        phase: named.phase.copy(alloc)?,
         reason,
     })
 }

@@ -4,9 +4,12 @@
 mod distances;
 mod draft;
 mod key_index;
+mod key_table;
 mod key_words;
 mod keys;
 mod laws;
+mod met_keys;
+mod named_pick;
 mod picks;
 mod reasons;
 mod stations;
@@ -15,6 +18,7 @@ mod tests;
 mod using;
 mod wanting;
 
+pub use key_table::KeyTable;
 pub use keys::{GridKey, Place, are_same_keys};
 pub use laws::{each_pick_is_in_one_list, first_ones_are_used};
 pub use picks::{Picks, Reason, Skip, UsedPick};

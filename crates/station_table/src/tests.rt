@@ -391,6 +391,41 @@ fn duplicates_look_back_at_wanted_picks(rt: HostRuntime) -> Result<(), Fail> {
     Ok(())
 }
 
+// What one table decides of the picks of events, one after the other. All sources are in the middle of the search grid.
+fn decided_in_turn(alloc: Global, control: &Control, events: &[Event]) -> Result<String, Fail>
+    requires control { IsControl control.now }
+    requires events { All IsEvent events.now }
+{
+    let keys = wanted(alloc, control, events)?;
+    if keys.len() > 4096 {
+        return Err(Fail::from("many keys"));
+    }
+    let places = vec![in alloc; MIDDLE; keys.len()]?;
+    let mut table = KeyTable::new(alloc, control, &keys, &places)?;
+    let mut text = String::new(alloc);
+    for event in events {
+        let picks = table.use_picks(alloc, event)?;
+        text.push_str(text_of(alloc, &picks)?.as_str())?;
+    }
+    Ok(text)
+}
+
+#[test]
+fn one_table_serves_events_that_share_no_duplicates(rt: HostRuntime) -> Result<(), Fail> {
+    let alloc = rt.alloc();
+    let mut control = plain_control(alloc)?;
+    control.reject_duplicates = true;
+    let first = event_of(alloc, &[usual("A", "P"), usual("B", "P"), usual("A", "P")])?;
+    let second = event_of(alloc, &[usual("A", "P"), usual("B", "S")])?;
+    let third = event_of(alloc, &[usual("B", "S"), usual("B", "P")])?;
+    let events = vec![in alloc; first, second, third]?;
+    assert_eq!(rt;
+        decided_in_turn(alloc, &control, &events)?.as_str(),
+        "1 A P 0 1000 0 0;2 B P 0 1000 0 1;3 A P Duplicate;1 A P 0 1000 0 0;2 B S 0 1000 0 2;1 B S 0 1000 0 2;2 B P 0 1000 0 1;"
+    );
+    Ok(())
+}
+
 // What is decided of a pick whose source is 5 m from the middle of the search grid, with these limits of the distance.
 fn decided_within(alloc: Global, max_dist: i64, min_dist: i64) -> Result<String, Fail> {
     if max_dist.unsigned_abs() > 10_000 {

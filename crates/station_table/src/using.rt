@@ -7,7 +7,7 @@ ghost use Rattle.phase_reader.specs.Limits.{IsEvent};
 ghost use Rattle.station_table.specs.Using.{ArePicksOf};
 ghost use Rattle.station_table.specs.Limits.{AreKeysOf, IsUsedPick};
 
-use crate::draft::{Draft, Rules};
+use crate::key_table::KeyTable;
 use crate::keys::{GridKey, Place};
 use crate::picks::Picks;
 use control_reader::Control;
@@ -16,14 +16,14 @@ use std::alloc::{AllocError, Global};
 
 /// The picks of an event that are used, and those that aren't, each with its first reason, by nine rules of this project. The first two
 /// give a pick its station and its standard phase by the statements `LOCALIAS` and `LOCPHASEID`, and the others are those of `Reason`,
-/// in its order.
+/// in its order. For many events, make one `KeyTable`, and call its `use_picks`.
 ///
 /// `keys` has fewer than 2^32 keys, none of them twice, and each key of the event that `wanted` names. `places` has the place of the
 /// source of each key, in the same order, with coordinates of at most 10^10 mm in size. Control and event are within the limits in which
 /// `read_control` and `read_phases` answer them. Want of memory is the only refusal.
 ///
 /// Times are in microseconds, weights in thousandths, distances in millimetres. The times of two used picks differ by at most
-/// 2,200,000,000,000 microseconds.
+/// 2,200,000,000,000 microseconds, and each is at most 4*10^17 in size.
 pub fn use_picks(
     alloc: Global,
     control: &Control,
@@ -38,10 +38,6 @@ pub fn use_picks(
     ensures near { IfOk result (λ picks. AllPairs (λ a b. unsigned_abs (a.time -ℤ b.time) ≤ 2200000000000) picks.used.items) }
     ensures limits { IfOk result (λ picks. All (IsUsedPick (length keys.now)) picks.used.items) }
 {
-    let rules = Rules::new(alloc, control, keys, places)?;
-    let mut draft = Draft::new(alloc, &rules, event.picks.len())?;
-    for pick in &event.picks {
-        draft.take_pick(alloc, &rules, pick)?;
-    }
-    Ok(draft.finish())
+    let mut table = KeyTable::new(alloc, control, keys, places)?;
+    table.use_picks(alloc, event)
 }

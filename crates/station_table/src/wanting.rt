@@ -1,5 +1,5 @@
 //! The time grids that the picks of events need.
-ghost use Rattle.std.specs.Prelude.{◌≡◌, ◌∷◌, [], IfOk, OnOk, All};
+ghost use Rattle.std.specs.Prelude.{◌≡◌, ◌≤◌, ◌*◌, ◌∷◌, [], IfOk, OnOk, All, length};
 ghost use Rattle.control_reader.specs.ControlValues.{values_of};
 ghost use Rattle.control_reader.specs.Limits.{IsControl};
 ghost use Rattle.indexmap.specs.IndexSet.{insert_all};
@@ -11,8 +11,7 @@ ghost use Rattle.station_table.specs.Limits.{HoldsKeysOf, KeysDiffer, IsKey};
 use crate::key_index::KeyIndex;
 use crate::key_words::KeyWords;
 use crate::keys::GridKey;
-use crate::reasons::early_reason;
-use crate::stations::{phase_of, station_of};
+use crate::named_pick::NamedPick;
 use control_reader::Control;
 use phase_reader::{Event, Pick};
 use std::alloc::{AllocError, Global};
@@ -33,6 +32,7 @@ pub fn wanted(
     ensures holds { IfOk result (λ keys. All (λ event. HoldsKeysOf (values_of control.now) keys.items event.picks.items) events.now) }
     ensures differ { IfOk result (λ keys. KeysDiffer keys.items) }
     ensures limits { IfOk result (λ keys. All IsKey keys.items) }
+    ensures count { IfOk result (λ keys. length keys.items ≤ 4096 * length events.now) }
 {
     let mut index = KeyIndex::new(alloc);
     for event in events {
@@ -63,9 +63,9 @@ fn put_key<'a>(
 ) -> Result<(), AllocError>
     ensures { OnOk result (index.new ≡ insert_all same_key index.old (keys_of (values_of control.now) (pick.now ∷ []))) }
 {
-    let (station, phase) = (station_of(control, pick), phase_of(control, pick));
-    match early_reason(control, pick, station, phase) {
+    let named = NamedPick::of(control, pick);
+    match named.reason {
         Some(_) => Ok(()),
-        None => index.put(KeyWords::for_phase(control, station, phase)),
+        None => index.put(KeyWords::for_phase(control, named.station, named.phase)),
     }
 }

@@ -7,13 +7,8 @@ use Rattle.station_table.specs.declared.keys.GridKey.{GridKey}
 use Rattle.station_table.specs.declared.keys.Place.{Place}
 use Rattle.station_table.specs.declared.picks.Picks.{Picks}
 use Rattle.station_table.specs.declared.picks.UsedPick.{UsedPick}
-use Rattle.station_table.specs.Limits.{AreKeysOf, IsUsedPick}
-use Rattle.station_table.specs.Using.{skipped_picks}
-use Rattle.event_assembly.specs.Assembling.{used_of_events}
-
--- a list of keys with a place for each, that holds those of all events
-abbrev pub AreKeysOfAll : ControlValues → List GridKey → List Place → List (List Pick) → Type 0
-AreKeysOfAll control keys places events = All (AreKeysOf control keys places) events
+use Rattle.station_table.specs.Limits.{IsUsedPick}
+use Rattle.station_table.specs.Using.{used_picks, skipped_picks}
 
 -- the times of two used picks differ by at most 2,200,000,000,000 microseconds
 abbrev pub AreNear : UsedPick → UsedPick → Type 0
@@ -23,6 +18,10 @@ AreNear a b = unsigned_abs (a.time -ℤ b.time) ≤ 2200000000000
 pub record AreUsed (keys : ℕ) (picks : Picks) : Type 0 where
   pub limits : All (IsUsedPick keys) picks.used.items
   pub near : AllPairs AreNear picks.used.items
+
+-- the used picks of each event
+abbrev pub used_of_events : ControlValues → List GridKey → List Place → List (List Pick) → List (List UsedPick)
+used_of_events control keys places events = map (used_picks control keys places) events
 
 -- the picks of events, each in one of the two lists of its event
 pub record AreDecided (control : ControlValues) (keys : List GridKey) (places : List Place) (events : List (List Pick)) (decided : List Picks) : Type 0 where

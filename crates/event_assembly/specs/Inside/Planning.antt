@@ -10,7 +10,8 @@ use Rattle.station_table.specs.declared.keys.Place.{Place}
 use Rattle.station_table.specs.declared.keys.Place.TheVariants.{Absent, At}
 use Rattle.event_assembly.specs.declared.planning.Plan.{Plan}
 use Rattle.event_assembly.specs.Answers.{lacks_a_grid}
-use Rattle.event_assembly.specs.Assembling.{ArePrepared, AreValid}
+use Rattle.event_assembly.specs.Assembled.{IsPrepared}
+use Rattle.event_assembly.specs.AssemblyValues.{event_value, event_of}
 use Rattle.event_assembly.specs.Inside.Reads.{IsRowKey}
 use Rattle.event_assembly.specs.Rows.{row_keys}
 
@@ -26,9 +27,10 @@ places_of_headers headers = map place_of_header headers
 -- what is settled by the headers of the wanted keys
 pub record IsPlan (control : ControlValues) (keys : List GridKey) (headers : List (Option Header)) (picks : List (List Pick)) (plan : Plan) : Type 0 where
   pub rows : plan.rows.items ≡ row_keys control keys (places_of_headers headers) picks
-  pub prepared : ArePrepared control keys (places_of_headers headers) picks plan.events.items
+  pub events : map event_value plan.events.items
+      ≡ map (event_of control keys (places_of_headers headers) plan.rows.items) picks
   pub few : length plan.rows.items < 2 ^ 32
   pub ready : All (IsRowKey keys headers) plan.rows.items
-  pub valid : (field : FieldTimes) → length field.rows ≡ length plan.rows.items → AreValid field plan.events.items
+  pub prepared : (field : FieldTimes) → length field.rows ≡ length plan.rows.items → All (IsPrepared control field) plan.events.items
   pub lacks : lacks_a_grid plan.events.items ≡ true → list_any is_none headers ≡ true
   pub one_each : length plan.events.items ≡ length picks

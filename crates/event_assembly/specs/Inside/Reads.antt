@@ -14,11 +14,15 @@ use Rattle.time_grid.specs.declared.faults.StreamFault.TheVariants.{Absent as st
 use Rattle.time_grid.specs.Numbers.{is_over}
 use Rattle.event_assembly.specs.declared.faults.AssembleFault.{AssembleFault}
 use Rattle.event_assembly.specs.declared.faults.AssembleFault.TheVariants.{Absent, Failed, Body, Align, Memory}
-use Rattle.event_assembly.specs.Answers.{IsRefusal}
+use Rattle.event_assembly.specs.Answers.{IfToldFault}
 use Rattle.event_assembly.specs.Assembling.{first_fault}
 use Rattle.event_assembly.specs.Headers.{header_of, header_fault, fault_of_file}
 use Rattle.event_assembly.specs.Names.{header_name, body_name}
 use Rattle.event_assembly.specs.Rows.{body_search_times, times_for, fault_of_row_file, row_fault, row_times}
+
+-- a refusal is the first fault, but for failed calls and want of memory
+abbrev pub IsRefusal : Option AssembleFault → AssembleFault → Type 0
+IsRefusal first fault = IfToldFault (λ told. first ≡ Some told) fault
 
 -- the answer for the header of this name, which has these bytes
 abbrev pub ReadsPresent : List ℕ → List ℕ → Result Header AssembleFault → Type 0

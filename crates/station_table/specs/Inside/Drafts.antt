@@ -4,10 +4,10 @@ use Rattle.std.specs.List.{list_any}
 use Rattle.control_reader.specs.Limits.{IsControl}
 use Rattle.control_reader.specs.ControlValues.{ControlValues, values_of}
 use Rattle.phase_reader.specs.declared.phases.Pick.{Pick}
-use Rattle.station_table.specs.declared.draft.Draft.{Draft}
 use Rattle.station_table.specs.declared.draft.Rules.{Rules}
 use Rattle.station_table.specs.declared.keys.GridKey.{GridKey}
 use Rattle.station_table.specs.declared.keys.Place.{Place}
+use Rattle.station_table.specs.declared.picks.Picks.{Picks}
 use Rattle.station_table.specs.declared.picks.Reason.{Reason}
 use Rattle.station_table.specs.declared.picks.Reason.TheVariants.{Duplicate, NoGrid, Far, BeyondMax}
 use Rattle.station_table.specs.Distances.{is_too_far}
@@ -47,8 +47,8 @@ pub record Notes (rules : Rules) (before : List Pick) (met : List Bool) : Type 0
   pub one_each : length met ≡ length rules.index
   pub noted : (place : ℕ) → place < length rules.index → get_or met place false ≡ is_met (values_of rules.control.now) rules.index before place
 
--- a draft holds the picks before, decided by the rules
-pub record Follows (rules : Rules) (before : List Pick) (draft : Draft) : Type 0 where
-  pub notes : Notes rules before draft.met.items
-  pub used : draft.picks.used.items ≡ used_picks (values_of rules.control.now) rules.index rules.places.now before
-  pub skipped : draft.picks.skipped.items ≡ skipped_picks (values_of rules.control.now) rules.index rules.places.now before
+-- the keys of the picks before are noted, and those picks are decided by the rules
+pub record Follows (rules : Rules) (before : List Pick) (met : List Bool) (picks : Picks) : Type 0 where
+  pub notes : Notes rules before met
+  pub used : picks.used.items ≡ used_picks (values_of rules.control.now) rules.index rules.places.now before
+  pub skipped : picks.skipped.items ≡ skipped_picks (values_of rules.control.now) rules.index rules.places.now before

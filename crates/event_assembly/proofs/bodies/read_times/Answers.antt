@@ -8,7 +8,7 @@ pub returns-in-Err-clause-told : goal.returns-in-Err-clause-told
 returns-in-Err-clause-told g c =
     times_refused (g.S.Shelf.files c.args.shelf.now) c.byte_order-order.result (values_of c.args.control.now) c.args.key.now c.args.header.now c.args.name
     c.as_str-text.result.now c.stream_times.new.into c.stream_times.new.into c.in-Err.fault c.body_refusal.result c.byte_order-order.ensures c.requires.name c.as_str-text.ensures.text
-    c.in-Err.ensures.told c.in-Err.ensures.axis c.body_refusal.ensures
+    c.in-Err.ensures.told c.in-Err.ensures.axis c.body_refusal.ensures.value
 
 pub returns-in-None-clause-told : goal.returns-in-None-clause-told
 returns-in-None-clause-told g c =
