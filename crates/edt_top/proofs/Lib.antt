@@ -1,2 +1,4 @@
 pub mod SolveLaws
 pub mod LocateLaws
+pub mod StatusLaws
+pub mod RunLaws

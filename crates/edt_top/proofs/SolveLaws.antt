@@ -2,3 +2,4 @@
 pub mod ProblemForms
 pub mod ProblemSteps
 pub mod ProblemValid
+pub mod EndingSteps

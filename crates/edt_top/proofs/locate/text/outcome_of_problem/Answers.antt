@@ -1,7 +1,7 @@
 use Rattle.std.proofs.Common.{◌∙◌}
 use Rattle.kernel_table.specs.Falloff.{shape_of}
-use Rattle.edt_top.proofs.OutcomeLaws.{outcome_is}
-use Rattle.edt_top.proofs.locating.outcome_of_problem.Goals as goal
+use Rattle.edt_top.proofs.LocateLaws.OutcomeLaws.{outcome_is}
+use Rattle.edt_top.proofs.locate.text.outcome_of_problem.Goals as goal
 
 pub returns : goal.returns
 returns g c =

@@ -1,10 +1,10 @@
 use Rattle.std.proofs.Common.{◌≡◌, ℕ, List, ◌∷◌, [], ◌<◌, refl, sym, ◌∙◌, ap, subst, arith, rules}
 use Rattle.std.proofs.lemmas.Result.{err_from_is_err_and}
 use Rattle.edt_outside.specs.Sinks.{Appends}
-use Rattle.edt_top.specs.AssembledText.{WritingEnds}
-use Rattle.edt_top.specs.LocateText.{head_line}
-use Rattle.edt_top.proofs.WritingSteps.{writes_none}
-use Rattle.edt_top.proofs.locating.write_head.Goals as goal
+use Rattle.edt_top.specs.Inside.Writing.{WritingEnds}
+use Rattle.edt_top.specs.Locate.Text.{head_line}
+use Rattle.edt_top.proofs.LocateLaws.WritingSteps.{writes_none}
+use Rattle.edt_top.proofs.locate.text.write_head.Goals as goal
 
 pub returns-in_err-line-clause-told : goal.returns-in_err-line-clause-told
 returns-in_err-line-clause-told g c =
