@@ -1,93 +1,59 @@
--- What a run of `solve` answers, by what its words name on the shelf.
-use Rattle.std.specs.Prelude.{◌≡◌, ℕ, ◌≤◌, ◌<◌, Bool, true, false, ◌==◌, List, length, take, Option, Some, None, Result, Ok, Err, ⊤, ◌⊎◌}
-use Rattle.std.specs.List.{list_any}
-use Rattle.text_terms.specs.Words.{file_words}
-use Rattle.edt_outside.specs.Shelves.{Files}
-use Rattle.edt_outside.specs.Sinks.{Appends}
-use Rattle.edt_top.specs.declared.refusals.Refusal.{Refusal}
-use Rattle.edt_top.specs.declared.refusals.Refusal.TheVariants.{Problem, TooLong, Memory, Read, Write, Absent}
-use Rattle.edt_top.specs.declared.problem_cursor.ProblemFault.{ProblemFault}
-use Rattle.edt_top.specs.ProblemFile.{IsProblemFile}
-use Rattle.edt_top.specs.ProblemReading.{Names}
-use Rattle.edt_top.specs.RunWords.{solve_name}
-use Rattle.edt_top.specs.RunLines.{problem_line, too_long_line}
-use Rattle.edt_top.specs.SolveText.{solve_text}
+-- What the status of a run says of its text and its line, and which statuses a run can have.
+use Rattle.std.specs.Prelude.{◌≡◌, ℕ, ◌<◌, List, [], ◌∷◌, length, take, flat_map, IsTrue, Option, Some, None, Ok, Err, ⊤, ◌⊎◌}
+use Rattle.run_input.specs.Inputs.{InputValues}
+use Rattle.run_input.specs.Lines.{words_line}
+use Rattle.run_input.specs.Statuses.{is_one_of}
+use Rattle.run_input.specs.Told.{IsCutShort}
+use Rattle.edt_top.specs.declared.refusals.RunRefusal.{RunRefusal}
+use Rattle.edt_top.specs.Commands.{RunCommand, Solve, Locate}
+use Rattle.edt_top.specs.Locate.Text.{locate_parts}
+use Rattle.edt_top.specs.RunEndings.{RunEnding}
+use Rattle.edt_top.specs.RunRefusals.{CanRefuse, program, run_line, run_status}
 
--- a problem file has at most so many bytes
-abbrev pub most_bytes : ℕ
-most_bytes = 16777216
+-- all of some texts
+abbrev pub joined : List (List ℕ) → List ℕ
+joined texts = flat_map (λ (text : List ℕ). text) texts
 
--- the bytes are a problem file
-pub record IsAccepted (bytes : List ℕ) : Type 0 where
-  pub short : length bytes ≤ most_bytes
-  pub whole : IsProblemFile (file_words bytes)
+-- what was written, of the parts that a text can have: all of them; nothing, or some first ones, but not all, for want of memory; or a
+-- proper front of the text, where a write failed
+pub record IsWritten (IsText : List (List ℕ) → Type 0) (status : ℕ) (Wrote : List ℕ → Type 0) : Type 0 where
+  pub whole : status ≡ 0 → (parts : List (List ℕ)) × IsText parts × Wrote (joined parts)
+  pub front : status ≡ 6 → Wrote [] ⊎ ((parts : List (List ℕ)) × IsText parts × (n : ℕ) × (n < length parts) × Wrote (joined (take n parts)))
+  pub cut_short : status ≡ 8 → (parts : List (List ℕ)) × IsText parts × IsCutShort Wrote (joined parts)
 
--- the bytes are within their limit, and this is their first faulty word
-pub record IsFaulty (bytes : List ℕ) (fault : ProblemFault) : Type 0 where
-  pub short : length bytes ≤ most_bytes
-  pub first : Names (file_words bytes) fault
+-- the ending is a refusal of this status, and its line has this
+abbrev pub Refuses : RunEnding → ℕ → (List ℕ → Type 0) → Type 0
+Refuses ending status Tells =
+    (refusal : RunRefusal) × (ending ≡ Err refusal) × (run_status refusal ≡ status) × Tells (run_line refusal)
 
--- how the reading and solving of a file ends, by what stands under its name and by what the output had taken before and has after
-abbrev pub Ends : Option (List ℕ) → Result (Unit {0}) Refusal → Option (List ℕ) → Option (List ℕ) → Type 0
-Ends file (Ok _) before after = (bytes : List ℕ) × (file ≡ Some bytes) × IsAccepted bytes × Appends before after (solve_text (file_words bytes))
-Ends file (Err (Problem fault)) before after = (bytes : List ℕ) × (file ≡ Some bytes) × IsFaulty bytes fault
-Ends file (Err TooLong) before after = (bytes : List ℕ) × (file ≡ Some bytes) × (most_bytes < length bytes)
-Ends file (Err Memory) before after = ⊤
-Ends file (Err Read) before after = ⊤
-Ends file (Err Write) before after = (bytes : List ℕ) × (file ≡ Some bytes) × IsAccepted bytes × ((n : ℕ) × (n < length (solve_text (file_words bytes))) × Appends before after (take n (solve_text (file_words bytes))))
-Ends file (Err Absent) before after = file ≡ None
+-- what each status says, by the ending that the files tell, and the statuses that a run with an ending can have
+pub record Answers (ending : RunEnding) (status : ℕ) (Wrote Tells : List ℕ → Type 0) : Type 0 where
+  pub written : IsWritten (λ (parts : List (List ℕ)). ending ≡ Ok parts) status Wrote
+  pub control_refused : status ≡ 3 → Refuses ending 3 Tells
+  pub file_refused : status ≡ 4 → Refuses ending 4 Tells
+  pub grids_refused : status ≡ 5 → Refuses ending 5 Tells
+  pub absent : status ≡ 9 → Refuses ending 9 Tells
+  pub writes : (parts : List (List ℕ)) → ending ≡ Ok parts → IsTrue (is_one_of status (0 ∷ 6 ∷ 7 ∷ 8 ∷ []))
+  pub refuses : (refusal : RunRefusal) → ending ≡ Err refusal
+      → IsTrue (is_one_of status (run_status refusal ∷ 6 ∷ 7 ∷ []))
 
--- a call of the shelf failed
-abbrev pub read_failed : Result (Unit {0}) Refusal → Bool
-read_failed (Ok _) = false
-read_failed (Err (Problem fault)) = false
-read_failed (Err TooLong) = false
-read_failed (Err Memory) = false
-read_failed (Err Read) = true
-read_failed (Err Write) = false
-read_failed (Err Absent) = false
+-- the parts are those of the text of some input
+abbrev pub IsLocateText : List (List ℕ) → Type 0
+IsLocateText parts = (input : InputValues) × (parts ≡ locate_parts input)
 
--- a write failed or took nothing
-abbrev pub write_failed : Result (Unit {0}) Refusal → Bool
-write_failed (Ok _) = false
-write_failed (Err (Problem fault)) = false
-write_failed (Err TooLong) = false
-write_failed (Err Memory) = false
-write_failed (Err Read) = false
-write_failed (Err Write) = true
-write_failed (Err Absent) = false
+-- on every shelf: a run that locates writes the parts of such a text, and want of memory leaves nothing of a run that solves
+abbrev pub WritesParts : RunCommand → ℕ → (List ℕ → Type 0) → Type 0
+WritesParts (Solve name) status Wrote = status ≡ 6 → Wrote []
+WritesParts (Locate name) status Wrote = IsWritten IsLocateText status Wrote
 
--- the shelf has no such file
-abbrev pub was_absent : Result (Unit {0}) Refusal → Bool
-was_absent (Ok _) = false
-was_absent (Err (Problem fault)) = false
-was_absent (Err TooLong) = false
-was_absent (Err Memory) = false
-was_absent (Err Read) = false
-was_absent (Err Write) = false
-was_absent (Err Absent) = true
+-- on every shelf: the line is that of a refusal of this status which the command can have
+abbrev pub TellsRefusal : RunCommand → ℕ → (List ℕ → Type 0) → Type 0
+TellsRefusal command status Tells =
+    (refusal : RunRefusal) × CanRefuse command refusal × (run_status refusal ≡ status) × Tells (run_line refusal)
 
--- the words name a file, and this stands under its name
-abbrev pub Finds : Files → List (List ℕ) → Option (List ℕ) → Type 0
-Finds files words found = (name : List ℕ) × (solve_name words ≡ Some name) × (files name ≡ found)
-
--- the words name a problem file, whose text has this
-abbrev pub Solves : Files → List (List ℕ) → (List ℕ → Type 0) → Type 0
-Solves files words Has = (bytes : List ℕ) × Finds files words (Some bytes) × IsAccepted bytes × Has (solve_text (file_words bytes))
-
--- the words name a file with this first faulty word
-abbrev pub FindsFault : Files → List (List ℕ) → ProblemFault → Type 0
-FindsFault files words fault = (bytes : List ℕ) × Finds files words (Some bytes) × IsFaulty bytes fault
-
--- the words name a file past its limit
-abbrev pub FindsTooMuch : Files → List (List ℕ) → Type 0
-FindsTooMuch files words = (bytes : List ℕ) × Finds files words (Some bytes) × (most_bytes < length bytes)
-
--- the words name a file without a reading, or past its limit, and the line that tells which has this
-abbrev pub Refuses : Files → List (List ℕ) → (List ℕ → Type 0) → Type 0
-Refuses files words Has =
-    ((fault : ProblemFault) × FindsFault files words fault × Has (problem_line fault.cause fault.word)) ⊎ (FindsTooMuch files words × Has too_long_line)
-
--- the status is one of these
-abbrev pub is_one_of : ℕ → List ℕ → Bool
-is_one_of status statuses = list_any (λ s. s == status) statuses
+-- the line of each status, on every shelf: none where the run is done, that of words without a shape, or that of a refusal
+pub record TellsLine (command : Option RunCommand) (status : ℕ) (Tells : List ℕ → Type 0) (Stays : Type 0) : Type 0 where
+  pub done : status ≡ 0 → Stays
+  pub words : status ≡ 2 → Tells (words_line program)
+  pub refused : IsTrue (is_one_of status (3 ∷ 4 ∷ 5 ∷ 6 ∷ 7 ∷ 8 ∷ 9 ∷ []))
+      → (c : RunCommand) × (command ≡ Some c) × TellsRefusal c status Tells

@@ -1,68 +1,63 @@
-//! The line that a refusal writes to standard error. It takes no memory, and ends at the first piece that is refused.
-ghost use Rattle.std.specs.Prelude.{◌≡◌};
-ghost use Rattle.std.specs.List.{flat_map};
-ghost use Rattle.edt_top.specs.RunLines.{Told, cause_name, problem_line, words_line};
-ghost use Rattle.edt_top.specs.Refusals.{line_of_refusal};
+//! The line that a run without its text writes to standard error.
+ghost use Rattle.std.specs.Prelude.{◌≡◌, IsTrue};
+ghost use Rattle.run_input.specs.Lines.{words_line};
+ghost use Rattle.run_input.specs.Told.{Told};
+ghost use Rattle.edt_top.specs.RunRefusals.{cause_name, is_named_run, problem_line, program, run_line};
 
-use crate::problem_cursor::ProblemFault;
-use crate::problem_word::ProblemCause;
-use crate::refusals::Refusal;
-use edt_outside::{PutFailed, Sink, put_all};
+use crate::refusals::RunRefusal;
+use crate::solve::problem_cursor::ProblemFault;
+use crate::solve::problem_word::ProblemCause;
+use edt_outside::{PutFailed, Sink};
 use itoa::Buffer;
+use run_input::{put_pieces, tell_refusal};
 
 // Tells that the words of a run have no shape.
 pub fn tell_words<E: Sink>(err: &mut E)
-    ensures told { Told (E.taken err.old) (E.taken err.new) (E.faults err.old) (E.faults err.new) words_line }
+    ensures told { Told E.taken E.faults err.old err.new (words_line program) }
 {
     let _ = put_pieces(err, &[b"edtloc: words\n"]);
 }
 
-// Tells of a refusal, in a run on the file of this name.
-pub fn tell<E: Sink>(err: &mut E, name: &str, refusal: &Refusal)
-    ensures told { Told (E.taken err.old) (E.taken err.new) (E.faults err.old) (E.faults err.new) (line_of_refusal name.now refusal.now) }
+// Tells of a refusal.
+pub fn tell_run_refusal<E: Sink>(refusal: &RunRefusal, err: &mut E)
+    ensures told { Told E.taken E.faults err.old err.new (run_line refusal.now) }
+    ensures named { IsTrue (is_named_run refusal.now) }
 {
     let _ = match refusal {
-        Refusal::Problem(fault) => put_problem(err, fault),
-        Refusal::TooLong => put_pieces(err, &[b"edtloc: problem TooLong 0\n"]),
-        Refusal::Memory => put_pieces(err, &[b"edtloc: memory\n"]),
-        Refusal::Read => put_pieces(err, &[b"edtloc: read ", name.as_bytes(), b"\n"]),
-        Refusal::Write => put_pieces(err, &[b"edtloc: write\n"]),
-        Refusal::Absent => put_pieces(err, &[b"edtloc: absent ", name.as_bytes(), b"\n"]),
+        RunRefusal::Problem(fault) => put_problem(fault, err),
+        RunRefusal::ProblemTooLong => put_pieces(err, &[b"edtloc: problem TooLong 0\n"]),
+        RunRefusal::Input(refusal) => {
+            tell_refusal(b"edtloc:", refusal, err);
+            Ok(())
+        }
+        RunRefusal::Write => put_pieces(err, &[b"edtloc: write\n"]),
     };
 }
 
-fn put_problem<E: Sink>(err: &mut E, fault: &ProblemFault) -> Result<(), PutFailed>
-    ensures told { Told (E.taken err.old) (E.taken err.new) (E.faults err.old) (E.faults err.new) (problem_line fault.now.cause fault.now.word) }
+// Tells of the first faulty word of a problem file.
+#[tactic(auto, unfolding(crate::specs::RunRefusals::problem_line))]
+fn put_problem<E: Sink>(fault: &ProblemFault, err: &mut E) -> Result<(), PutFailed>
+    ensures told { Told E.taken E.faults err.old err.new (problem_line fault.now) }
 {
     let mut buffer = Buffer::new();
-    let place = buffer.format(fault.word).as_bytes();
     put_pieces(
         err,
         &[
             b"edtloc: problem ",
-            cause_name(fault.cause),
+            cause_name(&fault.cause),
             b" ",
-            place,
+            buffer.format(fault.word).as_bytes(),
             b"\n",
         ],
     )
 }
 
-fn cause_name(cause: ProblemCause) -> &'static [u8]
-    ensures { result.now ≡ cause_name cause }
+// The name of a cause of a problem file.
+fn cause_name(cause: &ProblemCause) -> &[u8]
+    ensures { result.now ≡ cause_name cause.now }
 {
     match cause {
         ProblemCause::Form => b"Form",
         ProblemCause::Limit => b"Limit",
     }
-}
-
-// The pieces one after another, up to the first that is refused.
-pub(crate) fn put_pieces<E: Sink>(err: &mut E, pieces: &[&[u8]]) -> Result<(), PutFailed>
-    ensures told { Told (E.taken err.old) (E.taken err.new) (E.faults err.old) (E.faults err.new) (flat_map (λ piece. piece.now) pieces.now) }
-{
-    for piece in pieces {
-        put_all(err, piece)?;
-    }
-    Ok(())
 }

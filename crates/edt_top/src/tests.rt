@@ -6,5 +6,6 @@ mod locate_texts;
 mod network;
 mod running;
 mod sample;
+mod scarce;
 mod solve;
 mod words;

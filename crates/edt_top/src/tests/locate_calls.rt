@@ -15,7 +15,17 @@ fn names_the_file_whose_call_failed(rt: HostRuntime) -> Result<(), Fail> {
         (4, "edtloc: read grid.in\n"),
         (7, "edtloc: read obs.txt\n"),
         (9, "edtloc: read obs.txt\n"),
+        // A header is asked for first, and then opened and read.
         (10, "edtloc: read time/a.P.AAA.time.hdr\n"),
+        (11, "edtloc: read time/a.P.AAA.time.hdr\n"),
+        (12, "edtloc: read time/a.P.AAA.time.hdr\n"),
+        (14, "edtloc: read time/a.P.BBB.time.hdr\n"),
+        (17, "edtloc: read time/a.P.BBB.time.hdr\n"),
+        // Then the bodies are opened and read.
+        (18, "edtloc: read time/a.P.AAA.time.usec\n"),
+        (19, "edtloc: read time/a.P.AAA.time.usec\n"),
+        (21, "edtloc: read time/a.P.BBB.time.usec\n"),
+        (23, "edtloc: read time/a.P.BBB.time.usec\n"),
     ] {
         let changes = [
             Swap("e1.in", "# sample", "INCLUDE grid.in"),
@@ -74,10 +84,10 @@ fn ends_with_a_failing_write(rt: HostRuntime) -> Result<(), Fail> {
 #[test]
 fn keeps_its_status_where_the_errors_fail(rt: HostRuntime) -> Result<(), Fail> {
     let alloc = rt.alloc();
-    // Ten bytes a write, and each piece of the line begins one: `edtloc: co`, `ntrol `, `0`, ` `, `7`, ` ` and `Method`.
+    // Ten bytes a write, and each piece of the line begins one: `edtloc:`, ` control `, `0`, ` `, `7`, ` ` and `Method`.
     for (write, err) in [
         (1, ""),
-        (2, "edtloc: co"),
+        (2, "edtloc:"),
         (3, "edtloc: control "),
         (7, "edtloc: control 0 7 "),
     ] {

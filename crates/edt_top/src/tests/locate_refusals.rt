@@ -34,7 +34,7 @@ fn names_the_first_faulty_line_of_an_included_file(rt: HostRuntime) -> Result<()
     for (included, err) in [
         ("INCLUDE more.in\n", "edtloc: control 1 1 NestedInclude\n"),
         ("# grid\nLOCGRID 4 1\n", "edtloc: control 1 2 Fields\n"),
-        // The statement's second line is in the main file, behind the included one.
+        // The statement's second line is in the main file, after the included one.
         (GRID_LINE, "edtloc: control 0 6 Repeated\n"),
     ] {
         let changes = [
@@ -84,6 +84,14 @@ fn names_the_first_faulty_line_of_a_phase_file(rt: HostRuntime) -> Result<(), Fa
         expect_refused(&rt, alloc, &[Swap("obs.txt", old, new)], 4, err)?;
     }
     Ok(())
+}
+
+#[test]
+fn refuses_a_phase_file_past_its_limit(rt: HostRuntime) -> Result<(), Fail> {
+    let alloc = rt.alloc();
+    let long = vec![in alloc; b' '; 16_777_217]?;
+    let changes = [Put("obs.txt", &long)];
+    expect_refused(&rt, alloc, &changes, 4, "edtloc: phases 0 TooLong\n")
 }
 
 #[test]

@@ -35,7 +35,7 @@ fn writes_the_head_line_alone_for_an_empty_phase_file(rt: HostRuntime) -> Result
     expect_text(&rt, rt.alloc(), &changes, "EDTLOC 1 EVENTS 0 PASSED 2 0\n")
 }
 
-// Asserts that the sample's text is written after these lines are put behind its control file and this text for that in its phase file.
+// Asserts that the sample's text is written after these lines are put after its control file and this text for that in its phase file.
 fn expect_same_text<'x>(
     rt: &impl Abort,
     alloc: Global,
@@ -120,12 +120,12 @@ END
 
 #[test]
 fn skips_a_duplicate(rt: HostRuntime) -> Result<(), Fail> {
-    let behind = "BBB ? ? ? P U 19940217 2216 46.0000 GAU 1.00e-01 -1.00e+00 -1.00e+00 -1.00e+00
+    let after = "BBB ? ? ? P U 19940217 2216 46.0000 GAU 1.00e-01 -1.00e+00 -1.00e+00 -1.00e+00
 AAA ? ? ? P U 19940217 2216 45.0000 GAU";
     expect_text(
         &rt,
         rt.alloc(),
-        &[Swap("obs.txt", "BBB ? ? ? P U 19940217 2216 46.0000 GAU", behind)],
+        &[Swap("obs.txt", "BBB ? ? ? P U 19940217 2216 46.0000 GAU", after)],
         "EDTLOC 1 EVENTS 1 PASSED 2 0
 EVENT 1 PICKS 2 SKIPPED 1
 PICK AAA P 761523405000000 1000 -
@@ -136,6 +136,22 @@ BEST 0 343597383680
 END
 ",
     )
+}
+
+#[test]
+fn locates_no_event_of_more_than_256_used_picks(rt: HostRuntime) -> Result<(), Fail> {
+    let alloc = rt.alloc();
+    // Duplicates aren't rejected.
+    let picks = "AAA ? ? ? P U 19940217 2216 45.0000 GAU 0.1\n".repeat(alloc, 257)?;
+    let lines = "PICK AAA P 761523405000000 1000 -\n".repeat(alloc, 257)?;
+    let changes = [
+        Swap("e1.in", "2 -1 -1 -1 0", "2 -1 -1 -1 0 -1 0"),
+        Put("obs.txt", picks.as_bytes()),
+    ];
+    let text = format!(in alloc;
+        "EDTLOC 1 EVENTS 1 PASSED 2 0\nEVENT 1 PICKS 257 SKIPPED 0\n{lines}CERT MANY\nEND\n"
+    )?;
+    expect_text(&rt, alloc, &changes, text.as_str())
 }
 
 #[test]

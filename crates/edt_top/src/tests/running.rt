@@ -1,7 +1,7 @@
 //! A run over a shelf and two sinks in memory, and what it is to end with.
 
 use crate::locate_run;
-use edt_outside::{MemoryShelf, MemorySink, Name, names_differ};
+use edt_outside::{MemoryShelf, MemorySink, Name, Shelf, names_differ};
 use std::alloc::Global;
 use std::process::Abort;
 use std::test::Fail;
@@ -55,7 +55,19 @@ fn words_of(alloc: Global, words: &[&str]) -> Result<Vec<String>, Fail> {
 
 // A sink that takes ten bytes a write.
 fn sink(alloc: Global, failing: &[u64]) -> Result<MemorySink, Fail> {
-    Ok(MemorySink::new(alloc, 2000, 10, failing.to_vec(alloc)?)?)
+    Ok(MemorySink::new(alloc, 20_000, 10, failing.to_vec(alloc)?)?)
+}
+
+// A shelf in memory of these files.
+pub fn shelf_of(
+    rt: &impl Abort,
+    alloc: Global,
+    files: Files,
+    run: &Run,
+) -> Result<MemoryShelf, Fail> {
+    assert!(rt; names_differ(&files));
+    assert!(rt; 1 <= run.piece);
+    Ok(MemoryShelf::new(files, run.piece, run.failing_calls.to_vec(alloc)?))
 }
 
 // Runs over these files, and asserts what it ends with.
@@ -66,14 +78,23 @@ pub fn expect(
     run: &Run,
     ending: &Ending,
 ) -> Result<(), Fail> {
+    let mut shelf = shelf_of(rt, alloc, files, run)?;
+    expect_over(rt, alloc, &mut shelf, run, ending)
+}
+
+// Runs over this shelf, and asserts what it ends with.
+pub fn expect_over<S: Shelf>(
+    rt: &impl Abort,
+    alloc: Global,
+    shelf: &mut S,
+    run: &Run,
+    ending: &Ending,
+) -> Result<(), Fail> {
     let words = words_of(alloc, run.words)?;
-    assert!(rt; names_differ(&files));
-    assert!(rt; 1 <= run.piece);
-    let mut shelf = MemoryShelf::new(files, run.piece, run.failing_calls.to_vec(alloc)?);
     let mut output = sink(alloc, run.failing_writes)?;
     let mut errors = sink(alloc, run.failing_errors)?;
     assert_eq!(rt;
-        locate_run(alloc, &words, &mut shelf, &mut output, &mut errors),
+        locate_run(alloc, &words, shelf, &mut output, &mut errors),
         ending.status,
         "of {} {}",
         ending.out,

@@ -1,0 +1,4 @@
+-- Laws of runs that locate.
+pub mod OutcomeLaws
+pub mod WritingSteps
+pub mod InputSteps

@@ -1,0 +1,3 @@
+-- Words for runs that locate the events of a control file.
+pub mod Outcomes
+pub mod Text

@@ -1,0 +1,4 @@
+-- Words for runs that solve a problem file.
+pub mod ProblemFile
+pub mod ProblemValues
+pub mod Text

@@ -1,0 +1,8 @@
+pub mod SinkFronts
+pub mod FaultyLaws
+pub mod NumberedLaws
+pub mod RefusalLaws
+pub mod IncludedSteps
+pub mod ControlSteps
+pub mod PhaseSteps
+pub mod InputSteps

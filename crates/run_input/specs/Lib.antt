@@ -1,0 +1,11 @@
+pub mod CauseNames
+pub mod Lines
+pub mod Told
+pub mod FileWords
+pub mod Statuses
+pub mod Refusals
+pub mod RefusalLines
+pub mod FilesUnder
+pub mod FirstRefusals
+pub mod Inputs
+pub mod Inside
