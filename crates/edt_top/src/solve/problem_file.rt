@@ -12,7 +12,7 @@ ghost use Rattle.edt_top.specs.Inside.ProblemParts.{IsHead, NamesFault, IsReadFr
 
 use crate::solve::problem_cursor::{Cursor, ProblemFault};
 use edt_score::{Field, Problem, ProblemPick};
-use node_boxes::Grid;
+use node_boxes::{Grid, roots};
 use std::alloc::{AllocError, AllocFailed, Global};
 use thiserror::Error;
 
@@ -228,7 +228,8 @@ pub fn read_problem(alloc: Global, bytes: &[u8]) -> Result<ProblemFile, ReadRefu
     let mut cursor = Cursor::new(bytes);
     let head = read_head(&mut cursor)?;
     let picks = read_picks(alloc, &mut cursor, head.picks)?;
-    let mut field = Field::new(alloc, head.grid)?;
+    let roots = roots(alloc, &head.grid, 1, 1, 1)?;
+    let mut field = Field::new(alloc, head.grid, roots)?;
     read_rows(alloc, &mut cursor, head.picks, &mut field)?;
     cursor.end()?;
     Ok(ProblemFile {

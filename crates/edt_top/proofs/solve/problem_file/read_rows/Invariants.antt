@@ -7,7 +7,7 @@ use Rattle.edt_top.proofs.solve.problem_file.read_rows.Given as goal
 
 abbrev pub invariant-loop-row : goal.invariant-loop-row
 invariant-loop-row l = record {
-  rows : l.field ≡ record { grid = l.fn.field.grid; rows = map (row_in l.fn.cursor.words) (range_with_len 0 l.row) };
+  rows : l.field ≡ record { grid = l.fn.field.grid; roots = l.fn.field.roots; rows = map (row_in l.fn.cursor.words) (range_with_len 0 l.row) };
   moved : l.cursor ≡ record { words = l.fn.cursor.words; place = first_time l.fn.cursor.words + l.row * nodes_in l.fn.cursor.words };
   sound : IsSound l.cursor;
 }
