@@ -7,3 +7,4 @@ pub mod BelowSteps
 pub mod FamilySteps
 pub mod RowSteps
 pub mod Enclosing
+pub mod RunSteps

@@ -1,13 +1,14 @@
-ghost use Rattle.std.specs.Prelude.{◌≡◌, ℕ, ◌-◌, ◌≤◌, length, nat_le, slice_get, Some, IfOk};
+ghost use Rattle.std.specs.Prelude.{◌≡◌, ℕ, ◌-◌, ◌<◌, ◌≤◌, length, nat_le, slice_get, Some, IfOk};
 ghost use Rattle.node_boxes.specs.declared.node_box.NodeBox.{NodeBox};
 ghost use Rattle.node_boxes.specs.Grid.{GridSize, node_count};
 ghost use Rattle.node_boxes.specs.Boxes.{IsIn, IsNonempty};
 ghost use Rattle.node_boxes.specs.Children.{children_of};
 ghost use Rattle.minmax_pyramid.specs.Spans.{time_in};
-ghost use Rattle.minmax_pyramid.specs.Inside.Joins.{reach_of};
+ghost use Rattle.node_boxes.specs.Inside.BoxWalks.{runs_from};
+ghost use Rattle.minmax_pyramid.specs.Inside.Joins.{highest, lowest, reach_of, reach_over};
 ghost use Rattle.minmax_pyramid.specs.Inside.Cells.{IsCell, is_small};
 
-use node_boxes::{BoxNodes, Grid, NodeBox};
+use node_boxes::{Grid, NodeBox};
 use std::alloc::{AllocError, Global};
 
 /// The octree of one row of times below a box: nothing for a box of at most four nodes on each axis,
@@ -95,13 +96,45 @@ fn box_span(grid: &Grid, times: &[u32], area: &NodeBox) -> (u32, u32)
     requires inside { IsIn grid.now area.now }
     ensures { result ≡ reach_of grid.now (time_in times.now) area.now }
 {
-    let mut nodes = BoxNodes::new(grid, area);
     let mut least: u32 = u32::MAX;
     let mut greatest: u32 = 0;
-    while let Some(node) = nodes.next() {
-        let time = times[node as usize];
-        least = least.min(time);
-        greatest = greatest.max(time);
+    for ix in area.x0..area.x1 {
+        let (low, high) = layer_span(grid, times, area, ix);
+        least = least.min(low);
+        greatest = greatest.max(high);
+    }
+    (least, greatest)
+}
+
+/// The least and the greatest time of the nodes of a box at one place on x.
+fn layer_span(grid: &Grid, times: &[u32], area: &NodeBox, ix: u32) -> (u32, u32)
+    requires times { length times.now ≡ node_count grid.now }
+    requires inside { IsIn grid.now area.now }
+    requires from { area.now.x0 ≤ ix }
+    requires to { ix < area.now.x1 }
+    ensures { result ≡ reach_over (time_in times.now) (runs_from grid.now area.now ix area.now.y0) }
+{
+    let mut least: u32 = u32::MAX;
+    let mut greatest: u32 = 0;
+    for iy in area.y0..area.y1 {
+        let start = grid.node_number(ix, iy, area.z0) as usize;
+        let end = start + (area.z1 - area.z0) as usize;
+        let (low, high) = run_span(&times[start..end]);
+        least = least.min(low);
+        greatest = greatest.max(high);
+    }
+    (least, greatest)
+}
+
+/// The least and the greatest of a run of times.
+fn run_span(run: &[u32]) -> (u32, u32)
+    ensures { result ≡ (lowest run.now, highest run.now) }
+{
+    let mut least: u32 = u32::MAX;
+    let mut greatest: u32 = 0;
+    for time in run {
+        least = least.min(*time);
+        greatest = greatest.max(*time);
     }
     (least, greatest)
 }

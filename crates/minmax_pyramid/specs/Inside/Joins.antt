@@ -17,6 +17,10 @@ lowest ns = joined min 4294967295 ns
 abbrev pub highest : List ℕ → ℕ
 highest ns = joined max 0 ns
 
+-- the lowest and the highest of the times to a list of nodes
+abbrev pub reach_over : (ℕ → ℕ) → List ℕ → ℕ × ℕ
+reach_over time nodes = (lowest (map time nodes), highest (map time nodes))
+
 -- the lowest and the highest time of the nodes of a box
 unfoldable pub lowest_of : GridSize → (ℕ → ℕ) → NodeBox → ℕ
 lowest_of g time a = lowest (map time (box_nodes g a))

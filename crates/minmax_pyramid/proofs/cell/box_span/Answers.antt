@@ -1,28 +1,20 @@
-use Rattle.std.proofs.Common.{length, refl}
+use Rattle.std.proofs.Common.{arith}
+use Rattle.node_boxes.specs.Inside.BoxWalks.{runs_from}
 use Rattle.minmax_pyramid.specs.Spans.{time_in}
-use Rattle.minmax_pyramid.proofs.JoinSteps.{joining_start, joining_more, joining_end}
+use Rattle.minmax_pyramid.proofs.RunSteps.{parts_more, box_joined}
 use Rattle.minmax_pyramid.proofs.cell.box_span.Goals as goal
 
-pub loop-node-init : goal.loop-node-init
-loop-node-init c =
-    joining_start (time_in c.args.times.now) (length c.args.times.now) c.args.grid.now c.args.area.now
-    c.new-nodes.result c.requires.times c.new-nodes.ensures
-
-pub bounds-times-node : goal.bounds-times-node
-bounds-times-node c =
-    (joining_more (time_in c.args.times.now) (length c.args.times.now) c.args.grid.now c.args.area.now
-    c.loop-node.nodes c.loop-node.least c.loop-node.greatest c.in-Some.node c.next.new.self _ _
-    c.in-Some.ensures refl refl c.loop-node.invariant).0
-
-pub loop-node-preserved : goal.loop-node-preserved
-loop-node-preserved c =
-    (joining_more (time_in c.args.times.now) (length c.args.times.now) c.args.grid.now c.args.area.now
-    c.loop-node.nodes c.loop-node.least c.loop-node.greatest c.in-Some.node c.next.new.self
-    c.min-least.result c.max-greatest.result
-    c.in-Some.ensures c.min-least.ensures c.max-greatest.ensures c.loop-node.invariant).1
+pub loop-ix-preserved : goal.loop-ix-preserved
+loop-ix-preserved c =
+    let area = c.args.area.now in
+    parts_more (time_in c.args.times.now) (λ i. runs_from c.args.grid.now area i area.y0) area.x0 c.loop-ix.ix
+    c.layer_span-low.result.0 c.layer_span-low.result.1 c.loop-ix.least c.loop-ix.greatest c.min-least.result
+    c.max-greatest.result c.loop-ix.auto.ix c.layer_span-low.ensures c.min-least.ensures c.max-greatest.ensures
+    c.loop-ix.invariant
 
 pub returns : goal.returns
 returns c =
-    let end = joining_end (time_in c.args.times.now) (length c.args.times.now) c.args.grid.now c.args.area.now
-    c.loop-node.nodes c.loop-node.least c.loop-node.greatest c.in_default.ensures c.loop-node.invariant in
-    rw (end.0, end.1) refl
+    let area = c.args.area.now in
+    let inside = c.requires.inside in
+    box_joined c.args.grid.now (time_in c.args.times.now) area c.loop-ix.ix c.loop-ix.least c.loop-ix.greatest inside
+    (omega (arith, inside.x)) c.loop-ix.invariant

@@ -1,10 +1,13 @@
-use Rattle.std.proofs.Common.{length}
+use Rattle.std.proofs.Common.{◌-◌, map}
+use Rattle.std.specs.List.{flat_map, range_with_len}
+use Rattle.node_boxes.specs.Inside.BoxWalks.{runs_from}
 use Rattle.minmax_pyramid.specs.Spans.{time_in}
-use Rattle.minmax_pyramid.proofs.JoinSteps.{IsJoining}
+use Rattle.minmax_pyramid.proofs.RunSteps.{IsJoined}
 use Rattle.minmax_pyramid.proofs.cell.box_span.Given as goal
 
-abbrev pub invariant-loop-node : goal.invariant-loop-node
-invariant-loop-node l = IsJoining (time_in l.times) (length l.times) l.fn.grid l.fn.area l.nodes l.least l.greatest
-
-abbrev pub decreases-loop-node : goal.decreases-loop-node
-decreases-loop-node l = length l.nodes
+abbrev pub invariant-loop-ix : goal.invariant-loop-ix
+invariant-loop-ix l =
+    IsJoined
+    (map (time_in l.times)
+    (flat_map (λ i. runs_from l.grid l.area i l.area.y0) (range_with_len l.area.x0 (l.ix - l.area.x0))))
+    l.least l.greatest
