@@ -1,8 +1,8 @@
 -- The table in the source is the one of the rule.
-use Rattle.std.proofs.Common.{◌≡◌, ℕ, zero, suc, ◌+◌, ◌<◌, List, [], ◌∷◌, refl, sym, ap, ◌∙◌, arith, get_or}
-use Rattle.std.proofs.lemmas.Bool.{cond-true, lt-ltb}
+use Rattle.std.proofs.Common.{◌≡◌, ℕ, zero, suc, ◌+◌, ◌<◌, ◌≤◌, List, [], ◌∷◌, refl, sym, ap, ◌∙◌, arith, get_or}
 use Rattle.kernel_table.specs.declared.table.TheConstants.{GAUSS_TABLE}
 use Rattle.kernel_table.specs.Kernel.{Row, next_row, gauss_row, gauss_entry}
+use Rattle.kernel_table.proofs.KernelLaws.{gauss_entry-row}
 
 -- the entries of n rows, from one on
 abbrev entries_from : ℕ → Row → List ℕ
@@ -17,11 +17,12 @@ get_or-entries_from (suc n) k zero h = ap (λ j. (gauss_row j).entry) (omega ari
 get_or-entries_from (suc n) k (suc i) h = get_or-entries_from n (suc k) i (omega arith) ∙ ap (λ j. (gauss_row j).entry) (omega arith)
 
 -- the source's table is the entries of the rule, computed
-table-is : GAUSS_TABLE ≡ entries_from 256 (gauss_row 0)
+table-is : GAUSS_TABLE ≡ entries_from 257 (gauss_row 0)
 unfolding gauss_row
 table-is = refl
 
 -- an entry of the table in the source
-pub table-entry : (i : ℕ) → i < 256 → get_or GAUSS_TABLE i 0 ≡ gauss_entry i
-unfolding gauss_entry
-table-entry i h = ap (λ table. get_or table i 0) table-is ∙ get_or-entries_from 256 0 i h ∙ ap (λ j. (gauss_row j).entry) (omega arith) ∙ sym (cond-true _ _ _ (lt-ltb i 256 h))
+pub table-entry : (i : ℕ) → i ≤ 256 → get_or GAUSS_TABLE i 0 ≡ gauss_entry i
+table-entry i h =
+    ap (λ table. get_or table i 0) table-is ∙ get_or-entries_from 257 0 i (omega arith) ∙ ap (λ j. (gauss_row j).entry) (omega arith)
+    ∙ sym (gauss_entry-row i)

@@ -42,7 +42,7 @@ row-zero : (i : ℕ) → 232 ≤ i → (gauss_row i).entry ≡ 0
 row-zero i far = omega (arith, row-never_rises 232 i far, entry-232)
 
 -- and the table's end at 256 cuts nothing off
-gauss_entry-row : (i : ℕ) → gauss_entry i ≡ (gauss_row i).entry
+pub gauss_entry-row : (i : ℕ) → gauss_entry i ≡ (gauss_row i).entry
 unfolding gauss_entry
 gauss_entry-row i = elim (cases_lt i 256) [ inl within ↦ cond-true _ _ _ (lt-ltb i 256 within) | inr past ↦ cond-false _ _ _ (le-ltb i 256 past) ∙ sym (row-zero i (omega arith)) ]
 

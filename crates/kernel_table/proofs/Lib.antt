@@ -1,3 +1,4 @@
 pub mod FalloffLaws
 pub mod GaussTable
 pub mod KernelLaws
+pub mod ProductPlaces

@@ -1,2 +1,3 @@
 pub mod Falloff
 pub mod Kernel
+pub mod Reciprocal

@@ -1,7 +1,7 @@
 ghost use Rattle.std.specs.Prelude.{◌≡◌, ◌*◌, ◌/◌, ◌^◌, ◌<◌, ◌≤◌};
-ghost use Rattle.kernel_table.specs.Kernel.{kernel_value, gauss_entry, count_value};
+ghost use Rattle.kernel_table.specs.Kernel.{kernel_value, count_value};
 
-use crate::table::GAUSS_TABLE;
+use crate::table::entry;
 
 /// The value of a pair with no misfit.
 const WHOLE: u64 = 1_048_576;
@@ -30,7 +30,7 @@ pub fn gauss(misfit: u64, scale: u64) -> u64
     if misfit / 4 >= scale {
         return 0;
     }
-    entry(&GAUSS_TABLE, place(misfit, scale))
+    entry(place(misfit, scale))
 }
 
 /// The triangular kernel at a misfit and a scale, both in microseconds:
@@ -75,13 +75,4 @@ fn place(misfit: u64, scale: u64) -> usize
     } else {
         (64 * misfit as u128 / scale as u128) as usize
     }
-}
-
-/// An entry of the Gaussian table.
-fn entry(table: &[u32], place: usize) -> u64
-    requires gauss { table.now ≡ GAUSS_TABLE }
-    requires within { place < 256 }
-    ensures { result ≡ gauss_entry place }
-{
-    table[place] as u64
 }

@@ -6,10 +6,12 @@
 #![tactic(auto)]
 
 mod kernels;
+mod reciprocals;
 mod stored;
 mod table;
 #[cfg(test)]
 mod tests;
 
 pub use kernels::{Shape, count, gauss, triangle};
+pub use reciprocals::{gauss_by, reciprocal};
 pub use stored::Falloff;

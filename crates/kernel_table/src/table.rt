@@ -1,10 +1,15 @@
+//! The table of the Gaussian kernel.
+
+ghost use Rattle.std.specs.Prelude.{◌≡◌, ◌≤◌};
+ghost use Rattle.kernel_table.specs.Kernel.{gauss_entry};
+
 /// The entries of the Gaussian kernel, in parts of 2^20.
 ///
 /// The entry at `i` is after `2^20 * exp(-(i/64)^2)`. The first is 1048576, with the factor
 /// 4293918847. Each next entry is the one before times its factor, and the factor beside it the
 /// factor before times 4292870655, both by 2^32 and rounded down. So the table is whole numbers on
-/// every machine, and never rises.
-pub(crate) static GAUSS_TABLE: [u32; 256] = [
+/// every machine, and never rises. A last 0 stands for each place past them.
+static GAUSS_TABLE: [u32; 257] = [
     1048576, 1048320, 1047552, 1046274, 1044487, 1042194, 1039398, 1036104, 1032316, 1028040,
     1023282, 1018049, 1012348, 1006187, 999576, 992523, 985039, 977134, 968820, 960107, 951008,
     941536, 931703, 921523, 911009, 900175, 889036, 877606, 865900, 853933, 841720, 829277, 816619,
@@ -22,5 +27,22 @@ pub(crate) static GAUSS_TABLE: [u32; 256] = [
     450, 412, 377, 345, 315, 288, 263, 240, 219, 199, 181, 165, 150, 136, 123, 111, 100, 90, 81,
     73, 66, 59, 53, 48, 43, 38, 34, 30, 27, 24, 21, 18, 16, 14, 12, 10, 9, 8, 7, 6, 5, 4, 3, 2, 1,
     0, 0, 0, 0, 0, 0, 0, 0, 0, 0, 0, 0, 0, 0, 0, 0, 0, 0, 0, 0, 0, 0, 0, 0, 0, 0, 0, 0, 0, 0, 0, 0,
-    0,
+    0, 0,
 ];
+
+/// An entry of the Gaussian table, or the 0 that follows the last one.
+pub(crate) fn entry(place: usize) -> u64
+    requires { place ≤ 256 }
+    ensures { result ≡ gauss_entry place }
+{
+    read(&GAUSS_TABLE, place)
+}
+
+/// The number at a place of the table.
+fn read(table: &[u32], place: usize) -> u64
+    requires gauss { table.now ≡ GAUSS_TABLE }
+    requires within { place ≤ 256 }
+    ensures { result ≡ gauss_entry place }
+{
+    table[place] as u64
+}
