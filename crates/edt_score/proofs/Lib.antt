@@ -1,5 +1,5 @@
 pub mod BestNodes
+pub mod EndTotals
 pub mod Readable
 pub mod RowTotals
 pub mod ScoreBounds
-pub mod ScoreTotals

@@ -1,11 +1,14 @@
 -- The picks of a valid problem have rows of the field and times near the first pick's.
-use Rattle.std.proofs.Common.{ℕ, ℤ, List, ◌<◌, ◌≤◌, ◌-ℤ◌, All, zero, suc, arith, length, get_or, unsigned_abs}
+use Rattle.std.proofs.Common.{ℕ, ℤ, List, [], ◌<◌, ◌≤◌, ◌-ℤ◌, All, zero, suc, arith, length, get_or, unsigned_abs}
 use Rattle.std.specs.List.{AllPairs}
 use Rattle.std.proofs.lemmas.Int.{ints}
 use Rattle.std.proofs.lemmas.List.{get_or_default}
+use Rattle.std.proofs.lemmas.Option.{unwrap_or-slice_get}
 use Rattle.edt_score.specs.declared.problem.ProblemPick.{ProblemPick}
 use Rattle.edt_score.specs.declared.problem.Problem.{Problem}
-use Rattle.edt_score.specs.Field.{FieldTimes}
+use Rattle.node_boxes.specs.Grid.{node_count}
+use Rattle.edt_score.specs.Field.{FieldTimes, IsField, time_at}
+use Rattle.edt_score.specs.Inside.Ends.{IsNear, point}
 use Rattle.edt_score.specs.Inside.Pairs.{IsReadable}
 use Rattle.edt_score.specs.Problem.{AreNear, IsValidProblem}
 
@@ -29,3 +32,18 @@ pub IsReadable-picks : (field : FieldTimes) (problem : Problem) (first : Problem
     → All (IsReadable field (get_or problem.picks.items 0 first).time) problem.picks.items
 IsReadable-picks field problem first valid k d below =
     record { row = (valid.picks k d below).row; near = near_first problem.picks.items first valid.times k d below }
+
+-- the time of a row at a node is at most 2,000,000,000
+pub time_at-limit : (field : FieldTimes) (row node : ℕ) → IsField field → row < length field.rows → node < node_count field.grid
+    → time_at field row node ≤ 2000000000
+time_at-limit field row node kept in_rows in_nodes =
+    let whole = kept.rows row [] in_rows in
+    let within : node < length (get_or field.rows row []) = rw whole.one_a_node in_nodes in
+    rw (unwrap_or-slice_get field.rows row []) (whole.limit node 0 within)
+
+-- so a readable pick is near with its time at a node as its span
+pub IsNear-points : (field : FieldTimes) (start : ℤ) (node : ℕ) (picks : List ProblemPick) → IsField field → node < node_count field.grid
+    → All (IsReadable field start) picks → All (IsNear start (point (time_at field) node)) picks
+IsNear-points field start node picks kept in_nodes readable k d below =
+    let pick = readable k d below in
+    record { close = pick.near; span = record { order = omega arith; limit = time_at-limit field (get_or picks k d).row node kept pick.row in_nodes } }

@@ -1,2 +1,4 @@
 -- Words for the crate's own parts, on which no public clause rests.
+pub mod Domination
+pub mod Ends
 pub mod Pairs

@@ -4,10 +4,12 @@ pub use Rattle.pair_weights.specs.Scale
 pub use Rattle.pair_weights.specs.Weight
 pub use Rattle.kernel_table.specs.Kernel
 pub use Rattle.kernel_table.specs.Falloff
+pub use Rattle.kernel_table.specs.Reciprocal
 pub mod Field
 pub mod Problem
 pub mod Score
 pub mod Scorer
 pub mod PairTerms
 pub mod Best
+pub mod Bound
 pub mod Inside

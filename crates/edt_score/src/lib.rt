@@ -6,12 +6,14 @@
 //! the origin time of the event cancels. Scale, weight and kernel are this project's own.
 #![tactic(auto)]
 
+mod ends;
 mod field;
 mod laws;
 mod pairs;
 mod problem;
-mod reduced_times;
 mod scorer;
+mod totals;
+mod values;
 #[cfg(test)]
 mod tests;
 

@@ -2,30 +2,34 @@ ghost use Rattle.std.specs.Prelude.{◌≡◌, ◌++◌, ◌≤◌, All, IfOk, O
 ghost use Rattle.edt_score.specs.Inside.Pairs.{IsPairable, pairs_of, terms_of};
 
 use crate::problem::ProblemPick;
+use kernel_table::reciprocal;
 use pair_weights::{scale, weight};
 use std::alloc::{AllocError, Global};
 use std::marker::Model;
 
-/// The scale, in microseconds, and the weight of a pair of picks.
+/// The weight of a pair of picks and its scale, as the factor of `gauss_by` and as the end of the
+/// table at four scales, in microseconds.
 #[derive(Drop)]
 pub(crate) struct Pair {
-    pub(crate) scale: u64,
+    pub(crate) reciprocal: u64,
+    pub(crate) end: u64,
     pub(crate) weight: u64,
 }
 
 impl Model for Pair {
-    ghost use Rattle.std.specs.Prelude.{◌≤◌};
+    ghost use Rattle.std.specs.Prelude.{◌≤◌, ◌/◌};
+    ghost use Rattle.kernel_table.specs.Reciprocal.{IsReciprocal};
     ghost use Rattle.edt_score.specs.PairTerms.{PairTerms};
 
     ghost Value = { PairTerms };
 
-    ghost view = { λ pair. record { scale = pair.scale; weight = pair.weight } };
+    ghost view = { λ pair. record { scale = pair.end / 4; weight = pair.weight } };
 
-    ghost invariant = { λ pair. (1 ≤ pair.scale) × (pair.weight ≤ 262144000) };
+    ghost invariant = { λ pair. IsReciprocal (pair.end / 4) pair.reciprocal pair.end × (pair.weight ≤ 262144000) };
 }
 
 impl Pair {
-    /// The scale and the weight of two picks.
+    /// The pair of two picks.
     fn of(first: &ProblemPick, other: &ProblemPick) -> Pair
         requires first { IsPairable first.now }
         requires other { IsPairable other.now }
@@ -33,7 +37,8 @@ impl Pair {
     {
         let scale = scale(first.variance, other.variance);
         Pair {
-            scale,
+            reciprocal: reciprocal(scale),
+            end: 4 * scale,
             weight: weight(first.weight, other.weight, scale),
         }
     }

@@ -1,14 +1,17 @@
-ghost use Rattle.std.specs.Prelude.{◌≡◌, ◌*◌, ◌^◌, ◌<◌, IfOk};
+ghost use Rattle.std.specs.Prelude.{◌≡◌, ◌*◌, ◌^◌, ◌<◌, ◌≤◌, IfOk, length};
 ghost use Rattle.node_boxes.specs.Grid.{node_count};
-ghost use Rattle.kernel_table.specs.Falloff.{AnswersItsShape};
+ghost use Rattle.kernel_table.specs.Falloff.{AnswersItsShape, shape_of};
 ghost use Rattle.edt_score.specs.Problem.{IsValidProblem};
-ghost use Rattle.edt_score.specs.Inside.Pairs.{pairs_of};
+ghost use Rattle.edt_score.specs.Inside.Ends.{table_total};
+ghost use Rattle.edt_score.specs.Inside.Pairs.{pair_count, pairs_of};
 
+use crate::ends::{Ends, fill_points};
 use crate::field::Field;
 use crate::pairs::{Pair, collect_pairs};
 use crate::problem::Problem;
-use crate::reduced_times::{fill_reduced_times, table_score};
-use kernel_table::Falloff;
+use crate::totals::table_total;
+use crate::values::ByReciprocal;
+use kernel_table::{Falloff, Shape};
 use std::alloc::{AllocError, Global};
 
 /// The most picks that a valid problem has.
@@ -61,10 +64,25 @@ impl<'a, F: Fn(u64, u64) -> u64> Scorer<'a, F> {
     {
         let picks = self.problem.picks.as_slice();
         let start = picks[0].time;
-        let mut room = [0; MAX_PICKS];
-        let reduced_times = &mut room[..picks.len()];
-        fill_reduced_times(self.field, picks, node, start, reduced_times);
-        table_score(self.falloff, reduced_times, &self.pairs)
+        let _rows = self.field.rows();
+        let mut room = [Ends::ZERO; MAX_PICKS];
+        let ends = &mut room[..picks.len()];
+        fill_points(self.field, picks, node, start, ends);
+        self.total(ends)
+    }
+
+    /// What all pairs of ends are worth. Which kernel it is is asked once.
+    fn total(&self, ends: &[Ends]) -> u64
+        requires few { length ends.now ≤ 256 }
+        requires lengths { length self.now.pairs.items ≡ pair_count (length ends.now) }
+        requires answers { AnswersItsShape F.Fn (falloff_of self.now) }
+        ensures value { result ≡ table_total (shape_of (falloff_of self.now)) ends.now self.now.pairs.items }
+        ensures bound { result ≤ length self.now.pairs.items * 274877906944000 }
+    {
+        match self.falloff.shape() {
+            Shape::Gauss => table_total(&ByReciprocal, ends, &self.pairs),
+            _ => table_total(self.falloff, ends, &self.pairs),
+        }
     }
 
     /// The field that the scorer was made from.

@@ -1,7 +1,5 @@
--- How a scorer keeps the pairs of a problem's picks, and what it makes of the reduced times at a node.
-use Rattle.std.specs.Prelude.{ℕ, ℤ, List, [], ◌∷◌, ◌++◌, ◌+◌, ◌*◌, ◌^◌, ◌<◌, ◌≤◌, ◌-ℤ◌, pos, zero, suc, map, drop, length, unsigned_abs}
-use Rattle.kernel_table.specs.declared.kernels.Shape.{Shape}
-use Rattle.kernel_table.specs.Kernel.{kernel_value}
+-- How a scorer keeps the pairs of a problem's picks.
+use Rattle.std.specs.Prelude.{ℕ, ℤ, List, [], ◌∷◌, ◌++◌, ◌+◌, ◌*◌, ◌^◌, ◌<◌, ◌≤◌, ◌-ℤ◌, zero, suc, map, length, unsigned_abs}
 use Rattle.pair_weights.specs.Scale.{scale_of}
 use Rattle.pair_weights.specs.Weight.{weight_of}
 use Rattle.edt_score.specs.declared.problem.ProblemPick.{ProblemPick}
@@ -34,19 +32,3 @@ pairs_of (pick ∷ picks) = map (terms_of pick) picks ++ pairs_of picks
 abbrev pub pair_count : ℕ → ℕ
 pair_count zero = 0
 pair_count (suc n) = n + pair_count n
-
--- what is left of the observed time of a pick, counted from `start`, without its travel time
-abbrev pub reduced_time_of : ℤ → (ℕ → ℕ → ℕ) → ℕ → ProblemPick → ℤ
-reduced_time_of start times node pick = (pick.time -ℤ start) -ℤ pos (times pick.row node)
-
--- the scores of the first reduced time with each of the others, by the terms of their pairs
-abbrev pub row_score : Shape → ℤ → List ℤ → List PairTerms → ℕ
-row_score shape first [] pairs = 0
-row_score shape first (other ∷ others) [] = 0
-row_score shape first (other ∷ others) (pair ∷ pairs) =
-    pair.weight * kernel_value shape (unsigned_abs (first -ℤ other)) pair.scale + row_score shape first others pairs
-
--- the scores of all pairs of reduced times
-abbrev pub table_score : Shape → List ℤ → List PairTerms → ℕ
-table_score shape [] pairs = 0
-table_score shape (first ∷ others) pairs = row_score shape first others pairs + table_score shape others (drop (length others) pairs)
