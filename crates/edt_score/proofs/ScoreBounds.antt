@@ -1,4 +1,4 @@
--- No score of a valid problem reaches 9*10^18, and no misfit passes its limit.
+-- No score and no bound of a valid problem reaches 9*10^18, and no misfit passes its limit.
 use Rattle.std.proofs.Common.{ℕ, ℤ, List, [], ◌∷◌, ◌*◌, ◌^◌, ◌<◌, ◌≤◌, ◌-ℤ◌, All, arith, length, unsigned_abs}
 use Rattle.std.proofs.Math.Nat.{mul-le-mul_right}
 use Rattle.std.proofs.lemmas.Int.{ints}
@@ -11,6 +11,7 @@ use Rattle.pair_weights.proofs.Scales.{scale_of-is}
 use Rattle.pair_weights.proofs.Weights.{weight_of-bound}
 use Rattle.edt_score.specs.declared.problem.ProblemPick.{ProblemPick}
 use Rattle.edt_score.specs.declared.problem.Problem.{Problem}
+use Rattle.edt_score.specs.Bound.{bound_by, gap_of, pair_bound}
 use Rattle.edt_score.specs.Field.{FieldTimes}
 use Rattle.edt_score.specs.Inside.Pairs.{pair_count}
 use Rattle.edt_score.specs.Problem.{IsValidPick, IsValidProblem}
@@ -49,5 +50,22 @@ score_of-bound shape times field problem node valid =
     let picks = problem.picks.items in
     let sum = pair_sum-le (λ a b. pair_score shape a b (times a.row node) (times b.row node)) (IsValidPick field) 274877906944000
     (λ a b first second. pair_score-le shape a b (times a.row node) (times b.row node) first.weight second.weight) picks valid.picks in
+    let few = pair_count-le (length picks) valid.few in
+    omega (arith, mul-le-mul_right 274877906944000 few)
+
+-- one pair of a bound
+pub pair_bound-le : (shape : Shape) (a b : ProblemPick) (s t : ℕ × ℕ) → a.weight ≤ 2000 → b.weight ≤ 2000 → pair_bound shape a b s t ≤ 274877906944000
+pair_bound-le shape a b s t first second =
+    let scale = pair_scale-is a b s.0 t.0 in
+    term-le _ _ (weight_of-bound a.weight b.weight (pair_scale a b s.0 t.0) first second scale.at_least)
+    (kernel_value-le shape (gap_of a.time b.time s t) (pair_scale a b s.1 t.1))
+
+-- all pairs of a bound
+pub bound_by-limit : (shape : Shape) (spans : ℕ → ℕ × ℕ) (field : FieldTimes) (problem : Problem) → IsValidProblem field problem
+    → bound_by shape spans problem.picks.items < 9 * 10 ^ 18
+bound_by-limit shape spans field problem valid =
+    let picks = problem.picks.items in
+    let sum = pair_sum-le (λ a b. pair_bound shape a b (spans a.row) (spans b.row)) (IsValidPick field) 274877906944000
+    (λ a b first second. pair_bound-le shape a b (spans a.row) (spans b.row) first.weight second.weight) picks valid.picks in
     let few = pair_count-le (length picks) valid.few in
     omega (arith, mul-le-mul_right 274877906944000 few)

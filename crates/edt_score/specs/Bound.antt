@@ -1,6 +1,6 @@
 -- What any of a list of nodes can be worth at most, by the least and the greatest travel times to
 -- them.
-use Rattle.std.specs.Prelude.{ℕ, ℤ, List, [], ◌∷◌, ◌*◌, ◌-ℤ◌, pos, negsuc, max, min, map}
+use Rattle.std.specs.Prelude.{ℕ, ℤ, List, [], ◌∷◌, ◌*◌, ◌-ℤ◌, ◌<◌, pos, negsuc, max, min, map, length, Contains}
 use Rattle.kernel_table.specs.declared.kernels.Shape.{Shape}
 use Rattle.kernel_table.specs.Kernel.{kernel_value}
 use Rattle.pair_weights.specs.Weight.{weight_of}
@@ -42,3 +42,8 @@ bound_by shape spans picks = pair_sum (λ a b. pair_bound shape a b (spans a.row
 -- the bound of a list of nodes, with the travel time of each row at each node
 abbrev pub bound_over : Shape → (ℕ → ℕ → ℕ) → List ProblemPick → List ℕ → ℕ
 bound_over shape times picks nodes = bound_by shape (λ row. span_over (times row) nodes) picks
+
+-- some of the nodes of a list, at least one
+pub record IsPart (part nodes : List ℕ) : Type 0 where
+  pub some : 0 < length part
+  pub within : (node : ℕ) → Contains part node → Contains nodes node

@@ -1,4 +1,4 @@
-ghost use Rattle.std.specs.Prelude.{◌≡◌, ℕ, ℤ, Some, ◌*◌, ◌^◌, ◌<◌, ◌≤◌, ◌-ℤ◌, unsigned_abs};
+ghost use Rattle.std.specs.Prelude.{◌≡◌, ℕ, ℤ, List, [], ◌∷◌, Some, Contains, ◌*◌, ◌^◌, ◌<◌, ◌≤◌, ◌-ℤ◌, unsigned_abs};
 ghost use Rattle.kernel_table.specs.declared.kernels.Shape.{Shape};
 ghost use Rattle.pair_weights.specs.Scale.{IsScale};
 ghost use Rattle.edt_score.specs.declared.problem.Problem.{Problem};
@@ -6,6 +6,7 @@ ghost use Rattle.edt_score.specs.declared.problem.ProblemPick.{ProblemPick};
 ghost use Rattle.edt_score.specs.Field.{FieldTimes};
 ghost use Rattle.edt_score.specs.Problem.{IsValidProblem};
 ghost use Rattle.edt_score.specs.Score.{misfit_of, pair_scale, score_of, variance_at};
+ghost use Rattle.edt_score.specs.Bound.{IsPart, bound_over};
 ghost use Rattle.edt_score.specs.Best.{IsFirstBest, best_score, first_best};
 
 /// The scale of a pair is the least from 1000 on that the variances at the node allow, a misfit of
@@ -25,4 +26,17 @@ pub fn best_law()
     ensures back { (n node : ℕ) (score : ℕ → ℕ) → first_best n score ≡ Some node → IsFirstBest n score node }
     ensures score { (n node : ℕ) (score : ℕ → ℕ) → IsFirstBest n score node → best_score n score ≡ score node }
     ensures exists { (n : ℕ) (score : ℕ → ℕ) → 0 < n → (node : ℕ) × IsFirstBest n score node }
+{}
+
+/// The bound of a list of nodes is at least the score of each of them, at least the bound of any
+/// part of them, and the score itself where the list is one node; and it is below 9*10^18.
+pub fn bound_law()
+    ensures above { (shape : Shape) (times : ℕ → ℕ → ℕ) (picks : List ProblemPick) (nodes : List ℕ) (node : ℕ) → Contains nodes node
+        → score_of shape times picks node ≤ bound_over shape times picks nodes }
+    ensures part { (shape : Shape) (times : ℕ → ℕ → ℕ) (picks : List ProblemPick) (part nodes : List ℕ) → IsPart part nodes
+        → bound_over shape times picks part ≤ bound_over shape times picks nodes }
+    ensures single { (shape : Shape) (times : ℕ → ℕ → ℕ) (picks : List ProblemPick) (node : ℕ)
+        → bound_over shape times picks (node ∷ []) ≡ score_of shape times picks node }
+    ensures limit { (shape : Shape) (times : ℕ → ℕ → ℕ) (field : FieldTimes) (problem : Problem) (nodes : List ℕ)
+        → IsValidProblem field problem → bound_over shape times problem.picks.items nodes < 9 * 10 ^ 18 }
 {}

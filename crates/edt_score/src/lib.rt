@@ -18,6 +18,6 @@ mod values;
 mod tests;
 
 pub use field::Field;
-pub use laws::{best_law, score_law};
+pub use laws::{best_law, bound_law, score_law};
 pub use problem::{Problem, ProblemPick};
 pub use scorer::Scorer;

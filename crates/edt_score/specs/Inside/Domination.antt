@@ -1,8 +1,9 @@
 -- A bound is no less than that of narrower spans, pair by pair; so it is no less than the bound of a
 -- part of the nodes, and than the score of one of them.
-use Rattle.std.specs.Prelude.{◌≡◌, ℕ, ℤ, List, [], ◌∷◌, ◌*◌, ◌≤◌, ◌-ℤ◌, ◌+ℤ◌, ◌≤ℤ◌, pos, negsuc, max, unsigned_abs, sum_by}
-use Rattle.std.proofs.Common.{arith, refl, ap}
+use Rattle.std.specs.Prelude.{◌≡◌, ℕ, ℤ, List, [], ◌∷◌, ◌*◌, ◌<◌, ◌≤◌, ◌-ℤ◌, ◌+ℤ◌, ◌≤ℤ◌, pos, negsuc, max, map, unsigned_abs, sum_by, length, Contains}
+use Rattle.std.proofs.Common.{zero, suc, inl, inr, ◌⊎◌, arith, refl, ap, subst, ◌∙◌}
 use Rattle.std.proofs.Math.Nat.{mul-le-mul}
+use Rattle.std.proofs.lemmas.Bool.{cases_lt}
 use Rattle.std.proofs.lemmas.Int.{ints}
 use Rattle.std.proofs.lemmas.List.Sums.{sum_by-cons}
 use Rattle.kernel_table.specs.declared.kernels.Shape.{Shape}
@@ -12,7 +13,8 @@ use Rattle.pair_weights.specs.Weight.{weight_of}
 use Rattle.pair_weights.proofs.Scales.{scale_of-is, scale_of-rises}
 use Rattle.pair_weights.proofs.Weights.{weight_of-falls}
 use Rattle.edt_score.specs.declared.problem.ProblemPick.{ProblemPick}
-use Rattle.edt_score.specs.Bound.{bound_by, excess, gap_of, pair_bound}
+use Rattle.edt_score.specs.Best.{greatest}
+use Rattle.edt_score.specs.Bound.{IsPart, bound_by, bound_over, excess, gap_of, least, pair_bound, span_over}
 use Rattle.edt_score.specs.Score.{misfit_of, pair_scale, pair_score, pair_sum, score_of, variance_at}
 
 -- a span lies within another
@@ -111,3 +113,97 @@ bound_by-times shape times picks node =
     (λ a b. ap (λ gap. weight_of a.weight b.weight (pair_scale a b (times a.row node) (times b.row node)) * kernel_value shape gap (pair_scale a b (times a.row node) (times b.row node)))
       (gap_of-times a.time b.time (times a.row node) (times b.row node)))
     picks
+
+-- one of a list is its first or one of the others
+contains-cases : (n : ℕ) (ns : List ℕ) (m : ℕ) → Contains (n ∷ ns) m → (n ≡ m) ⊎ Contains ns m
+contains-cases n ns m (zero, below, is) = inl is
+contains-cases n ns m (suc k, below, is) = inr (k, omega arith, is)
+
+contains-more : (n : ℕ) (ns : List ℕ) (m : ℕ) → Contains ns m → Contains (n ∷ ns) m
+contains-more n ns m (k, below, is) = (suc k, omega arith, is)
+
+module _ (time : ℕ → ℕ) where
+  -- the least time is at most each, and is one of them
+  least-below : (nodes : List ℕ) (node : ℕ) → Contains nodes node → least (map time nodes) ≤ time node
+  least-below [] node (k, below, is) = absurd (omega arith)
+  least-below (n ∷ []) node has = elim (contains-cases n [] node has) [
+    | inl here ↦ omega (arith, ap time here)
+    | inr later ↦ absurd (let below = later.1 in omega arith)
+  ]
+  least-below (n ∷ (m ∷ ns)) node has = elim (contains-cases n (m ∷ ns) node has) [
+    | inl here ↦ omega (arith, ap time here)
+    | inr later ↦ omega (arith, least-below (m ∷ ns) node later)
+  ]
+
+  least-found : (nodes : List ℕ) → 0 < length nodes → (node : ℕ) × Contains nodes node × (least (map time nodes) ≡ time node)
+  least-found [] some = absurd (omega arith)
+  least-found (n ∷ []) some = (n, (0, omega arith, refl), refl)
+  least-found (n ∷ (m ∷ ns)) some =
+      let rest = least-found (m ∷ ns) (omega arith) in
+      elim (cases_lt (time n) (least (map time (m ∷ ns)))) [
+        | inl here ↦ (n, (0, omega arith, refl), omega arith)
+        | inr later ↦ (rest.0, contains-more n (m ∷ ns) rest.0 rest.1, omega (arith, rest.2))
+      ]
+
+  -- and the greatest is at least each, and is one of them
+  greatest-above : (nodes : List ℕ) (node : ℕ) → Contains nodes node → time node ≤ greatest (map time nodes)
+  greatest-above [] node (k, below, is) = absurd (omega arith)
+  greatest-above (n ∷ ns) node has = elim (contains-cases n ns node has) [
+    | inl here ↦ omega (arith, ap time here)
+    | inr later ↦ omega (arith, greatest-above ns node later)
+  ]
+
+  greatest-found : (nodes : List ℕ) → 0 < length nodes → (node : ℕ) × Contains nodes node × (greatest (map time nodes) ≡ time node)
+  greatest-found [] some = absurd (omega arith)
+  greatest-found (n ∷ []) some = (n, (0, omega arith, refl), omega arith)
+  greatest-found (n ∷ (m ∷ ns)) some =
+      let rest = greatest-found (m ∷ ns) (omega arith) in
+      elim (cases_lt (time n) (greatest (map time (m ∷ ns)))) [
+        | inl later ↦ (rest.0, contains-more n (m ∷ ns) rest.0 rest.1, omega (arith, rest.2))
+        | inr here ↦ (n, (0, omega arith, refl), omega arith)
+      ]
+
+  -- so the span of a part lies within that of all
+  pub span_over-part : (part nodes : List ℕ) → IsPart part nodes → IsWithin (span_over time part) (span_over time nodes)
+  span_over-part part nodes is =
+      let low = least-found part is.some in
+      let high = greatest-found part is.some in
+      record {
+        least = omega (arith, least-below nodes low.0 (is.within low.0 low.1), low.2);
+        greatest = omega (arith, greatest-above nodes high.0 (is.within high.0 high.1), high.2);
+      }
+
+  span_over-one : (node : ℕ) → span_over time (node ∷ []) ≡ (time node, time node)
+  span_over-one node = ap (λ high. (time node, high)) (omega arith)
+
+-- a part of the nodes has no greater bound
+pub bound_over-part : (shape : Shape) (times : ℕ → ℕ → ℕ) (picks : List ProblemPick) (part nodes : List ℕ) → IsPart part nodes
+    → bound_over shape times picks part ≤ bound_over shape times picks nodes
+bound_over-part shape times picks part nodes is =
+    bound_by-rises shape (λ row. span_over (times row) part) (λ row. span_over (times row) nodes) picks (λ row. span_over-part (times row) part nodes is)
+
+bound_by-same : (shape : Shape) (one other : ℕ → ℕ × ℕ) (picks : List ProblemPick) → ((row : ℕ) → one row ≡ other row)
+    → bound_by shape one picks ≡ bound_by shape other picks
+bound_by-same shape one other picks same =
+    pair_sum-same (λ a b. pair_bound shape a b (one a.row) (one b.row)) (λ a b. pair_bound shape a b (other a.row) (other b.row))
+    (λ a b. ap (λ s. pair_bound shape a b s (one b.row)) (same a.row) ∙ ap (λ t. pair_bound shape a b (other a.row) t) (same b.row)) picks
+
+-- one node has its score as its bound
+pub bound_over-one : (shape : Shape) (times : ℕ → ℕ → ℕ) (picks : List ProblemPick) (node : ℕ)
+    → bound_over shape times picks (node ∷ []) ≡ score_of shape times picks node
+bound_over-one shape times picks node =
+    bound_by-same shape (λ row. span_over (times row) (node ∷ [])) (λ row. (times row node, times row node)) picks (λ row. span_over-one (times row) node)
+    ∙ bound_by-times shape times picks node
+
+-- and no node of a list has a score above its bound
+pub bound_over-above : (shape : Shape) (times : ℕ → ℕ → ℕ) (picks : List ProblemPick) (nodes : List ℕ) (node : ℕ) → Contains nodes node
+    → score_of shape times picks node ≤ bound_over shape times picks nodes
+bound_over-above shape times picks nodes node has =
+    let is : IsPart (node ∷ []) nodes = record {
+      some = omega arith;
+      within = λ other one. elim (contains-cases node [] other one) [
+        | inl here ↦ subst (Contains nodes) here has
+        | inr none ↦ absurd (let below = none.1 in omega arith)
+      ];
+    } in
+    omega (arith, bound_over-part shape times picks (node ∷ []) nodes is, bound_over-one shape times picks node)
