@@ -43,7 +43,7 @@ table_step shape first rest others left row later sum result total rest_is row_i
     omega arith
 
 -- the pairs that are left after a row
-pub pair_count-rest : (first : Ends) (rest others : List Ends) (left later : ℕ) → rest ≡ first ∷ others → left ≡ pair_count (length rest)
+pub pair_count-rest : {X : Type 0} (first : X) (rest others : List X) (left later : ℕ) → rest ≡ first ∷ others → left ≡ pair_count (length rest)
     → later + length others ≡ left → later ≡ pair_count (length others)
 pair_count-rest first rest others left later rest_is left_is parts =
     let opened : left ≡ length others + pair_count (length others) = rw rest_is at left_is in

@@ -1,4 +1,5 @@
 -- Words for the crate's own parts, on which no public clause rests.
 pub mod Domination
 pub mod Ends
+pub mod Lanes
 pub mod Pairs

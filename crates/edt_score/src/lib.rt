@@ -8,6 +8,7 @@
 
 mod ends;
 mod field;
+mod lanes;
 mod laws;
 mod pairs;
 mod problem;
