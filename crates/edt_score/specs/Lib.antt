@@ -1,5 +1,8 @@
 pub use Rattle.node_boxes.specs.Grid
 pub use Rattle.node_boxes.specs.GridOrder
+pub use Rattle.node_boxes.specs.Boxes
+pub use Rattle.node_boxes.specs.Children
+pub use Rattle.node_boxes.specs.Octree
 pub use Rattle.pair_weights.specs.Scale
 pub use Rattle.pair_weights.specs.Weight
 pub use Rattle.kernel_table.specs.Kernel
@@ -12,4 +15,5 @@ pub mod Scorer
 pub mod PairTerms
 pub mod Best
 pub mod Bound
+pub mod Judging
 pub mod Inside

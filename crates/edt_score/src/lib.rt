@@ -8,6 +8,7 @@
 
 mod ends;
 mod field;
+mod judge;
 mod lanes;
 mod laws;
 mod pairs;
@@ -19,6 +20,7 @@ mod values;
 mod tests;
 
 pub use field::Field;
+pub use judge::Judge;
 pub use laws::{best_law, bound_law, score_law};
 pub use problem::{Problem, ProblemPick};
 pub use scorer::Scorer;
