@@ -21,7 +21,7 @@ pub(crate) fn fill_ends(
     requires within { All (λ place. place < length spans.now) places.now }
     requires room { length ends.old ≡ length picks.now }
     ensures room { length ends.new ≡ length picks.now }
-    ensures ends { AreEnds start picks.now places.now spans.now ends.new }
+    ensures ends { AreEnds (length picks.now) start picks.now places.now spans.now ends.new }
 {
     for (i, pick) in picks.iter().enumerate() {
         ends[i] = eight_ends(pick.time, start, &spans[places[i]]);

@@ -1,5 +1,5 @@
 -- The ends of picks over a family of boxes.
-use Rattle.std.specs.Prelude.{◌≡◌, ℕ, ℤ, List, [], ◌<◌, ◌≤◌, ◌-ℤ◌, pos, length, slice_index, slice_index_or, unsigned_abs}
+use Rattle.std.specs.Prelude.{◌≡◌, ℕ, ℤ, List, [], ◌<◌, ◌≤◌, ◌-ℤ◌, pos, slice_index, slice_index_or, unsigned_abs}
 use Rattle.edt_score.specs.declared.problem.ProblemPick.{ProblemPick}
 use Rattle.edt_score.specs.declared.ends.Ends.{Ends}
 use Rattle.edt_score.specs.Inside.Ends.{ends_within}
@@ -20,7 +20,7 @@ no_pick = record { time = pos 0; weight = 0; variance = 0; row = 0 }
 abbrev pub kept_span : List (List (ℕ × ℕ)) → ℕ → ℕ → ℕ × ℕ
 kept_span spans k place = slice_index_or (slice_index_or spans place []) k no_span
 
--- the ends of each pick over each of eight boxes
-abbrev pub AreEnds : ℤ → List ProblemPick → List ℕ → List (List (ℕ × ℕ)) → List (List Ends) → Type 0
-AreEnds start picks places spans ends = (i k : ℕ) → i < length picks → k < 8
+-- the ends of the first `n` picks over each of eight boxes
+abbrev pub AreEnds : ℕ → ℤ → List ProblemPick → List ℕ → List (List (ℕ × ℕ)) → List (List Ends) → Type 0
+AreEnds n start picks places spans ends = (i k : ℕ) → i < n → k < 8
     → lane k (slice_index_or ends i []) ≡ ends_within start (slice_index_or picks i no_pick).time (kept_span spans k (slice_index places i))
