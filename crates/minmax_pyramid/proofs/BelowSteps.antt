@@ -114,10 +114,6 @@ below_none a b some none apart (Down a' d several at_d below) =
     let first = first_held d b (below_part b d part.nonempty below) in
     omega (arith, counts (λ e. contains e b.x0 b.y0 b.z0) (children_of a) d at_d first)
 
-pub below_single : (a b : NodeBox) → is_single a ≡ true → (a ≡ b → ⊥) → IsBelow b a → ⊥
-below_single a b single apart Here = apart refl
-below_single a b single apart (Down a' d several at_d below) = absurd (both_ways (is_single a) several single)
-
 pub below_octree : (roots : List NodeBox) (b a : NodeBox) → IsOctreeBox roots a → IsBelow b a → IsOctreeBox roots b
 below_octree roots b a tree Here = tree
 below_octree roots b a tree (Down a' c several at below) =

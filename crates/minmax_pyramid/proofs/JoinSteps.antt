@@ -1,5 +1,5 @@
 -- What is joined of the children of a box is joined of the box.
-use Rattle.std.proofs.Common.{◌≡◌, ℕ, ◌<◌, ◌≤◌, min, max, arith, List, [], ◌∷◌, ◌++◌, map, refl, ap, sym, ◌∙◌, Bool, true, false, cond, ◌||◌, filter, sum_by, All}
+use Rattle.std.proofs.Common.{◌≡◌, ℕ, ◌≤◌, min, max, arith, List, [], ◌∷◌, ◌++◌, map, refl, ap, sym, ◌∙◌, Bool, true, false, cond, ◌||◌, filter, sum_by}
 use Rattle.std.specs.List.{list_any}
 use Rattle.std.proofs.lemmas.List.Sums.{sum_by-cons}
 use Rattle.node_boxes.specs.declared.node_box.NodeBox.{NodeBox}
@@ -10,8 +10,6 @@ use Rattle.node_boxes.specs.Children.{children_of}
 use Rattle.node_boxes.specs.Roots.{holders}
 use Rattle.node_boxes.specs.BoxNodes.{box_nodes}
 use Rattle.node_boxes.proofs.ChildBoxes.{children_once}
-use Rattle.node_boxes.proofs.Nodes.{box_nodes-below}
-use Rattle.std.proofs.lemmas.List.Elements.{All-head, All-tail}
 use Rattle.minmax_pyramid.specs.Inside.Joins.{joined, lowest, highest, lowest_of, highest_of}
 
 -- a number can be put in once or twice, in any order
@@ -154,53 +152,3 @@ pub joined_push : (op : ℕ → ℕ → ℕ) (end : ℕ) → Joins op end → (n
 joined_push op end is [] n = is.last n
 joined_push op end is (m ∷ ns) n =
     ap (op m) (joined_push op end is ns n) ∙ sym (is.first m (joined op end ns) n)
-
--- a walk over the nodes of a box has joined the times of those that are not left
-pub record IsJoining (time : ℕ → ℕ) (count : ℕ) (g : GridSize) (a : NodeBox) (nodes : List ℕ) (least greatest : ℕ) : Type 0 where
-  pub within : All (λ node. node < count) nodes
-  pub fits : least ≤ 4294967295
-  pub low : min least (lowest (map time nodes)) ≡ lowest_of g time a
-  pub high : max greatest (highest (map time nodes)) ≡ highest_of g time a
-
-lowest_bound : (ns : List ℕ) → lowest ns ≤ 4294967295
-lowest_bound [] = omega arith
-lowest_bound (n ∷ ns) = omega (arith, lowest_bound ns)
-
-pub joining_start : (time : ℕ → ℕ) (count : ℕ) (g : GridSize) (a : NodeBox) (nodes : List ℕ) → count ≡ node_count g
-    → nodes ≡ box_nodes g a → IsJoining time count g a nodes 4294967295 0
-unfolding lowest_of highest_of
-joining_start time count g a nodes all is =
-    let below : All (λ node. node < count) (box_nodes g a) =
-    rw all (box_nodes-below g a) in
-    rw is (record {
-      within = below;
-      fits = omega arith;
-      low = omega (arith, lowest_bound (map time (box_nodes g a)));
-      high = omega arith;
-    })
-
-pub joining_more : (time : ℕ → ℕ) (count : ℕ) (g : GridSize) (a : NodeBox) (nodes : List ℕ) (least greatest : ℕ)
-    (node : ℕ) (rest : List ℕ) (low high : ℕ) → nodes ≡ node ∷ rest → low ≡ min least (time node)
-    → high ≡ max greatest (time node) → IsJoining time count g a nodes least greatest
-    → (node < count) × IsJoining time count g a rest low high
-joining_more time count g a nodes least greatest node rest low high is low_is high_is joining =
-    let within : All (λ n. n < count) (node ∷ rest) = rw is at joining.within in
-    let was_low : min least (min (time node) (lowest (map time rest))) ≡ lowest_of g time a = rw is at joining.low in
-    let was_high : max greatest (max (time node) (highest (map time rest))) ≡ highest_of g time a = rw is at joining.high in (
-      All-head (λ n. n < count) node rest within,
-      record {
-        within = All-tail (λ n. n < count) node rest within;
-        fits = omega (arith, joining.fits);
-        low = omega arith;
-        high = omega arith;
-      },
-    )
-
-pub joining_end : (time : ℕ → ℕ) (count : ℕ) (g : GridSize) (a : NodeBox) (nodes : List ℕ) (least greatest : ℕ)
-    → nodes ≡ [] → IsJoining time count g a nodes least greatest
-    → (least ≡ lowest_of g time a) × (greatest ≡ highest_of g time a)
-joining_end time count g a nodes least greatest is joining =
-    let fits = joining.fits in
-    let low : min least 4294967295 ≡ lowest_of g time a = rw is at joining.low in
-    let high : max greatest 0 ≡ highest_of g time a = rw is at joining.high in
-    (omega arith, omega arith)

@@ -73,12 +73,6 @@ parts_more time f from k low high least greatest least' greatest' order is low_i
           ∙ sym (ap highest times ∙ joined-append max 0 max-joins (map time front) (map time (f k)));
     }
 
-pub parts_none : (time : ℕ → ℕ) (f : ℕ → List ℕ) (from : ℕ)
-    → IsJoined (map time (flat_map f (range_with_len from (from - from)))) 4294967295 0
-parts_none time f from =
-    let none : from - from ≡ 0 = omega arith in
-    rw none (record { low = refl; high = refl })
-
 -- the times from a node on are a run of the list
 run-times : (times : List ℕ) (start n : ℕ) → start + n ≤ length times
     → take n (drop start times) ≡ map (time_in times) (range_with_len start n)

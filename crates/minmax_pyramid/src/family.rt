@@ -5,7 +5,7 @@ ghost use Rattle.node_boxes.specs.Boxes.{IsIn, IsNonempty, IsSplittable};
 ghost use Rattle.node_boxes.specs.Grid.{GridSize};
 ghost use Rattle.node_boxes.specs.Children.{children_of};
 ghost use Rattle.minmax_pyramid.specs.Families.{FamilyWay, IsChildAt, IsFamilyOf};
-ghost use Rattle.minmax_pyramid.specs.Inside.FamilyParts.{IsWayTo};
+ghost use Rattle.minmax_pyramid.specs.Inside.FamilyParts.{IsWayTo, family_way};
 
 use node_boxes::NodeBox;
 use std::marker::Model;
@@ -94,7 +94,7 @@ impl Family {
     fn of(way: &Way) -> Family
         requires split { IsSplittable way.now.parent }
         requires few { way.now.len ≤ 16 }
-        ensures { result ≡ record { root = way.now.root; places = take way.now.len way.now.places; parent = way.now.parent } }
+        ensures { result ≡ family_way way.now }
     {
         let kids = way.parent.children();
         let mut children = [way.parent; 8];

@@ -1,7 +1,7 @@
 -- What a family keeps.
 use Rattle.std.specs.Prelude.{◌≡◌, ℕ, List, ◌≤◌, length, take}
 use Rattle.minmax_pyramid.specs.declared.family.Way.{Way}
-use Rattle.minmax_pyramid.specs.Families.{IsFamilyOf}
+use Rattle.minmax_pyramid.specs.Families.{FamilyWay, IsFamilyOf}
 use Rattle.node_boxes.specs.declared.node_box.NodeBox.{NodeBox}
 use Rattle.node_boxes.specs.Boxes.{IsSplittable}
 use Rattle.node_boxes.specs.Children.{children_of}
@@ -13,7 +13,11 @@ pub record KeepsChildren (parent : NodeBox) (children : List NodeBox) (count : �
   pub room : length children ≡ 8
   pub are : take count children ≡ children_of parent
 
+-- the way as others see it
+abbrev pub family_way : Way → FamilyWay
+family_way way = record { root = way.root; places = take way.len way.places; parent = way.parent }
+
 -- the way of at most sixteen steps leads down to its parent
 pub record IsWayTo (roots : List NodeBox) (way : Way) : Type 0 where
   pub few : way.len ≤ 16
-  pub family : IsFamilyOf roots (record { root = way.root; places = take way.len way.places; parent = way.parent })
+  pub family : IsFamilyOf roots (family_way way)
