@@ -25,7 +25,7 @@ excess-monus m n (pos k) is = omega (arith, ints)
 excess-monus m n (negsuc k) is = omega (arith, ints)
 
 -- a near time, less a travel time, is above 0 once it is lifted
-lifted : (start observed : ℤ) (time : ℕ) → unsigned_abs (observed -ℤ start) ≤ 2200000000000 → time ≤ 2000000000
+lifted : (start observed : ℤ) (time : ℕ) → unsigned_abs (observed -ℤ start) ≤ 2200000000000 → time ≤ 4294967295
     → pos (end_of start observed time) ≡ ((observed -ℤ start) -ℤ pos time) +ℤ pos 4398046511104
 lifted start observed time close limit = omega (arith, ints)
 

@@ -46,4 +46,5 @@ pub IsNear-points : (field : FieldTimes) (start : ℤ) (node : ℕ) (picks : Lis
     → All (IsReadable field start) picks → All (IsNear start (point (time_at field) node)) picks
 IsNear-points field start node picks kept in_nodes readable k d below =
     let pick = readable k d below in
-    record { close = pick.near; span = record { order = omega arith; limit = time_at-limit field (get_or picks k d).row node kept pick.row in_nodes } }
+    let limit = time_at-limit field (get_or picks k d).row node kept pick.row in_nodes in
+    record { close = pick.near; span = record { order = omega arith; limit = omega arith } }

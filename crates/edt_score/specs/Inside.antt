@@ -1,5 +1,7 @@
 -- Words for the crate's own parts, on which no public clause rests.
 pub mod Domination
 pub mod Ends
+pub mod Families
 pub mod Lanes
 pub mod Pairs
+pub mod UsedRows

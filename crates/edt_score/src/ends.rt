@@ -35,9 +35,7 @@ impl Ends {
 
 /// The ends of a pick with this observed time and these travel times.
 pub(crate) fn ends_within(observed: i64, start: i64, least: u32, greatest: u32) -> Ends
-    requires close { unsigned_abs (observed -ℤ start) ≤ 2200000000000 }
-    requires least { least ≤ 2000000000 }
-    requires greatest { greatest ≤ 2000000000 }
+    requires { unsigned_abs (observed -ℤ start) ≤ 2200000000000 }
     ensures { result ≡ ends_within start observed (least, greatest) }
 {
     Ends {
@@ -48,8 +46,7 @@ pub(crate) fn ends_within(observed: i64, start: i64, least: u32, greatest: u32) 
 
 /// An observed time, counted from `start` and lifted, less a travel time.
 fn end(observed: i64, start: i64, travel: u32) -> u64
-    requires close { unsigned_abs (observed -ℤ start) ≤ 2200000000000 }
-    requires limit { travel ≤ 2000000000 }
+    requires { unsigned_abs (observed -ℤ start) ≤ 2200000000000 }
     ensures { result ≡ end_of start observed travel }
 {
     (observed - start - i64::from(travel) + LIFT).unsigned_abs()

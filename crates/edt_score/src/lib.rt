@@ -7,6 +7,7 @@
 #![tactic(auto)]
 
 mod ends;
+mod family;
 mod field;
 mod judge;
 mod lanes;
@@ -15,6 +16,7 @@ mod pairs;
 mod problem;
 mod scorer;
 mod totals;
+mod used_rows;
 mod values;
 #[cfg(test)]
 mod tests;
