@@ -1,4 +1,5 @@
 -- Words for the crate's own parts, on which no public clause rests.
+pub mod BoxDomination
 pub mod Domination
 pub mod Ends
 pub mod Families

@@ -1,6 +1,7 @@
 pub use Rattle.node_boxes.specs.Grid
 pub use Rattle.node_boxes.specs.GridOrder
 pub use Rattle.node_boxes.specs.Boxes
+pub use Rattle.node_boxes.specs.BoxNodes
 pub use Rattle.node_boxes.specs.Children
 pub use Rattle.node_boxes.specs.Octree
 pub use Rattle.pair_weights.specs.Scale
@@ -15,5 +16,6 @@ pub mod Scorer
 pub mod PairTerms
 pub mod Best
 pub mod Bound
+pub mod BoxBound
 pub mod Judging
 pub mod Inside

@@ -1,9 +1,13 @@
 ghost use Rattle.std.specs.Prelude.{◌≡◌, ℕ, ℤ, List, [], ◌∷◌, Some, Contains, ◌*◌, ◌^◌, ◌<◌, ◌≤◌, ◌-ℤ◌, unsigned_abs};
+ghost use Rattle.node_boxes.specs.declared.node_box.NodeBox.{NodeBox};
+ghost use Rattle.node_boxes.specs.Grid.{node_count};
 ghost use Rattle.kernel_table.specs.declared.kernels.Shape.{Shape};
 ghost use Rattle.pair_weights.specs.Scale.{IsScale};
 ghost use Rattle.edt_score.specs.declared.problem.Problem.{Problem};
 ghost use Rattle.edt_score.specs.declared.problem.ProblemPick.{ProblemPick};
-ghost use Rattle.edt_score.specs.Field.{FieldTimes};
+ghost use Rattle.edt_score.specs.BoxBound.{box_bound};
+ghost use Rattle.edt_score.specs.Field.{FieldTimes, time_at};
+ghost use Rattle.edt_score.specs.Judging.{BoundsFall, node_box};
 ghost use Rattle.edt_score.specs.Problem.{IsValidProblem};
 ghost use Rattle.edt_score.specs.Score.{misfit_of, pair_scale, score_of, variance_at};
 ghost use Rattle.edt_score.specs.Bound.{IsPart, bound_over};
@@ -39,4 +43,13 @@ pub fn bound_law()
         → bound_over shape times picks (node ∷ []) ≡ score_of shape times picks node }
     ensures limit { (shape : Shape) (times : ℕ → ℕ → ℕ) (field : FieldTimes) (problem : Problem) (nodes : List ℕ)
         → IsValidProblem field problem → bound_over shape times problem.picks.items nodes < 9 * 10 ^ 18 }
+{}
+
+/// The bound of a box is no less than those of its children, and that of the box of a node alone is
+/// the score of the node.
+pub fn box_bound_law()
+    ensures falls { (shape : Shape) (field : FieldTimes) (picks : List ProblemPick) (roots : List NodeBox)
+        → BoundsFall field.grid roots (box_bound shape field picks) }
+    ensures node { (shape : Shape) (field : FieldTimes) (picks : List ProblemPick) (node : ℕ) → node < node_count field.grid
+        → box_bound shape field picks (node_box field.grid node) ≡ score_of shape (time_at field) picks node }
 {}

@@ -23,6 +23,6 @@ mod tests;
 
 pub use field::Field;
 pub use judge::Judge;
-pub use laws::{best_law, bound_law, score_law};
+pub use laws::{best_law, bound_law, box_bound_law, score_law};
 pub use problem::{Problem, ProblemPick};
 pub use scorer::Scorer;
