@@ -5,7 +5,8 @@ use Rattle.std.specs.List.{find, range_with_len}
 use Rattle.std.proofs.Math.Nat.{eq-or-lt_of_le, le_antisymm}
 use Rattle.std.proofs.lemmas.Bool.{cases_lt, cond-false, cond-true, eq-eqb, eqb-true}
 use Rattle.std.proofs.lemmas.Bool.Decides.{eqb_tells}
-use Rattle.edt_score.specs.Best.{IsFirstBest, best_score, first_best, greatest}
+use Rattle.edt_score.specs.Best.{IsFirstBest, best_score, first_best}
+use Rattle.minmax_pyramid.specs.Spans.{greatest}
 
 -- each score is at most the greatest
 greatest-above : (score : ℕ → ℕ) (from n node : ℕ) → from ≤ node → node < from + n → score node ≤ greatest (map score (range_with_len from n))

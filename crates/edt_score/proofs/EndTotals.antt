@@ -19,6 +19,11 @@ length-pairs_of [] = refl
 length-pairs_of (pick ∷ picks) =
     simp (length-append, length-map) (ap (λ n. length picks + n) (length-pairs_of picks))
 
+-- so there is one for each pair of as many ends
+pub pairs-counted : {X : Type 0} (picks : List ProblemPick) (pairs : List PairTerms) (ends : List X) → pairs ≡ pairs_of picks → length ends ≡ length picks
+    → length pairs ≡ pair_count (length ends)
+pairs-counted picks pairs ends p q = rw (p, q) (length-pairs_of picks)
+
 -- a difference of natural numbers is the excess of that of whole numbers
 excess-monus : (m n : ℕ) (z : ℤ) → pos m -ℤ pos n ≡ z → m - n ≡ excess z
 excess-monus m n (pos k) is = omega (arith, ints)
@@ -92,5 +97,5 @@ module _ (shape : Shape) (start : ℤ) (spans : ℕ → ℕ × ℕ) where
       rw (
         row_total-pairs a others (pairs_of others) near_a near_others,
         drop_at (map (terms_of a) others) (pairs_of others) (length (map (ends_of start spans) others)) rows,
-        table_total-bound others near_others
+        table_total-bound others near_others,
       )

@@ -16,5 +16,5 @@ pub lanes_step : (shape : Shape) (k : ℕ) (first : List Ends) (rest others : Li
 lanes_step shape k first rest others left row later sum before total rest_is row_is later_is sum_is before_is =
     let long : length (map (lane k) others) ≡ length others = simp length-map in
     let step = table_step shape (lane k first) (map (lane k) rest) (map (lane k) others) left row later before
-        (row_total shape (lane k first) (map (lane k) others) row) total (ap (map (lane k)) rest_is) (rw long row_is) (rw long later_is) refl before_is in
+    (row_total shape (lane k first) (map (lane k) others) row) total (ap (map (lane k)) rest_is) (rw long row_is) (rw long later_is) refl before_is in
     omega (arith, step)

@@ -1,8 +1,11 @@
 pub mod BestNodes
 pub mod EndTotals
+pub mod FamilyBounds
 pub mod FamilyEnds
+pub mod KeptFamilies
 pub mod LaneTotals
 pub mod Readable
+pub mod RowSpans
 pub mod RowTotals
 pub mod RowsInUse
 pub mod ScoreBounds

@@ -3,7 +3,6 @@ use Rattle.std.proofs.Common.{ℕ, ℤ, List, [], ◌<◌, ◌≤◌, ◌-ℤ◌
 use Rattle.std.specs.List.{AllPairs}
 use Rattle.std.proofs.lemmas.Int.{ints}
 use Rattle.std.proofs.lemmas.List.{get_or_default}
-use Rattle.std.proofs.lemmas.Option.{unwrap_or-slice_get}
 use Rattle.edt_score.specs.declared.problem.ProblemPick.{ProblemPick}
 use Rattle.edt_score.specs.declared.problem.Problem.{Problem}
 use Rattle.node_boxes.specs.Grid.{node_count}
@@ -39,7 +38,7 @@ pub time_at-limit : (field : FieldTimes) (row node : ℕ) → IsField field → 
 time_at-limit field row node kept in_rows in_nodes =
     let whole = kept.rows row [] in_rows in
     let within : node < length (get_or field.rows row []) = rw whole.one_a_node in_nodes in
-    rw (unwrap_or-slice_get field.rows row []) (whole.limit node 0 within)
+    whole.limit node 0 within
 
 -- so a readable pick is near with its time at a node as its span
 pub IsNear-points : (field : FieldTimes) (start : ℤ) (node : ℕ) (picks : List ProblemPick) → IsField field → node < node_count field.grid

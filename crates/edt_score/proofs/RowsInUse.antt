@@ -1,7 +1,8 @@
 -- The rows of picks, one pick after another.
-use Rattle.std.proofs.Common.{◌≡◌, ℕ, List, [], ◌∷◌, ◌++◌, ◌<◌, ◌≤◌, ◌⊎◌, All, Contains, inl, inr, arith, refl, ap, sym, subst, ◌∙◌, length, map, get_or, slice_index}
+use Rattle.std.proofs.Common.{◌≡◌, ℕ, List, [], ◌∷◌, ◌++◌, ◌<◌, ◌≤◌, ◌⊎◌, All, inl, inr, arith, refl, ap, sym, subst, ◌∙◌, length, map, get_or, slice_index}
 use Rattle.std.proofs.lemmas.List.{get_or_append_left, length-append, map-append}
-use Rattle.std.proofs.lemmas.List.Elements.{All-head, All-tail, All-push, Contains-append_left, Contains-push}
+use Rattle.std.proofs.Math.Seq.{get_or-append_seam}
+use Rattle.std.proofs.lemmas.List.Elements.{All-head, All-tail, All-push}
 use Rattle.edt_score.specs.declared.problem.ProblemPick.{ProblemPick}
 use Rattle.edt_score.specs.Inside.UsedRows.{AreRowsOf, IsKept, rows_of}
 
@@ -26,13 +27,18 @@ places_stay rows after (place ∷ places) stay within =
 rows_of-push : (picks : List ProblemPick) (pick : ProblemPick) → rows_of (picks ++ pick ∷ []) ≡ rows_of picks ++ pick.row ∷ []
 rows_of-push picks pick = map-append (λ (p : ProblemPick). p.row) picks (pick ∷ [])
 
-all_used : (used : List ℕ) (rows : List ℕ) (row : ℕ) (after : List ℕ) → (after ≡ rows) ⊎ (after ≡ rows ++ row ∷ []) → All (Contains used) rows
-    → All (Contains (used ++ row ∷ [])) after
-all_used used rows row after (inl same) are =
-    subst (All (Contains (used ++ row ∷ []))) (sym same) (λ k d below. Contains-append_left used (row ∷ []) _ (are k d below))
-all_used used rows row after (inr more) are =
-    subst (All (Contains (used ++ row ∷ []))) (sym more)
-    (All-push (Contains (used ++ row ∷ [])) rows row (λ k d below. Contains-append_left used (row ∷ []) _ (are k d below)) (Contains-push used row))
+-- what holds of all of a longer list holds of its front and of its last
+all_front : (P : ℕ → Type 0) (xs : List ℕ) (x : ℕ) → All P (xs ++ x ∷ []) → All P xs
+all_front P xs x all k d below =
+    subst P (get_or_append_left xs (x ∷ []) d k below) (all k d (omega (arith, length-append {A = ℕ} xs (x ∷ []))))
+
+all_last : (P : ℕ → Type 0) (xs : List ℕ) (x : ℕ) → All P (xs ++ x ∷ []) → P x
+all_last P xs x all =
+    subst P (get_or-append_seam xs x [] x) (all (length xs) x (omega (arith, length-append {A = ℕ} xs (x ∷ []))))
+
+all_kept : (P : ℕ → Type 0) (rows : List ℕ) (row : ℕ) (after : List ℕ) → (after ≡ rows) ⊎ (after ≡ rows ++ row ∷ []) → All P rows → P row → All P after
+all_kept P rows row after (inl same) all last = subst (All P) (sym same) all
+all_kept P rows row after (inr more) all last = subst (All P) (sym more) (All-push P rows row all last)
 
 -- one more pick, whose row is kept
 pub rows_more : (picks : List ProblemPick) (pick : ProblemPick) (rows after places : List ℕ) (place : ℕ)
@@ -44,5 +50,8 @@ rows_more picks pick rows after places place are kept =
       placed = map-append (slice_index after) places (place ∷ [])
           ∙ rw (places_stay rows after places stay are.within, are.placed, kept.here) (sym (rows_of-push picks pick));
       within = All-push (λ p. p < length after) places place (λ k d below. let less = are.within k d below in omega arith) kept.within;
-      used = subst (λ used. All (Contains used) after) (sym (rows_of-push picks pick)) (all_used (rows_of picks) rows pick.row after kept.rows are.used);
+      limit = λ n all.
+          let both = subst (All (λ r. r < n)) (rows_of-push picks pick) all in
+          all_kept (λ r. r < n) rows pick.row after kept.rows (are.limit n (all_front (λ r. r < n) (rows_of picks) pick.row both))
+          (all_last (λ r. r < n) (rows_of picks) pick.row both);
     }

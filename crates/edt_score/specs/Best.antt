@@ -1,12 +1,8 @@
 -- The best score of nodes and the first node that has it, whatever gives the scores.
-use Rattle.std.specs.Prelude.{ℕ, List, [], ◌∷◌, Option, ◌≤◌, ◌<◌, ◌==◌, max, map}
+use Rattle.std.specs.Prelude.{ℕ, Option, ◌≤◌, ◌<◌, ◌==◌, map}
 use Rattle.std.specs.List.{find}
 use Rattle.node_boxes.specs.GridOrder.{all_nodes}
-
--- the greatest number of a list, and 0 where there is none
-abbrev pub greatest : List ℕ → ℕ
-greatest [] = 0
-greatest (n ∷ ns) = max n (greatest ns)
+use Rattle.minmax_pyramid.specs.Spans.{greatest}
 
 -- the greatest of the scores of all of `n` nodes
 unfoldable pub best_score : ℕ → (ℕ → ℕ) → ℕ

@@ -1,22 +1,12 @@
 -- What any of a list of nodes can be worth at most, by the least and the greatest travel times to
 -- them.
-use Rattle.std.specs.Prelude.{ℕ, ℤ, List, [], ◌∷◌, ◌*◌, ◌-ℤ◌, ◌<◌, pos, negsuc, max, min, map, length, Contains}
+use Rattle.std.specs.Prelude.{ℕ, ℤ, List, ◌*◌, ◌-ℤ◌, ◌<◌, pos, negsuc, max, length, Contains}
 use Rattle.kernel_table.specs.declared.kernels.Shape.{Shape}
 use Rattle.kernel_table.specs.Kernel.{kernel_value}
 use Rattle.pair_weights.specs.Weight.{weight_of}
 use Rattle.edt_score.specs.declared.problem.ProblemPick.{ProblemPick}
-use Rattle.edt_score.specs.Best.{greatest}
+use Rattle.minmax_pyramid.specs.Spans.{span_over}
 use Rattle.edt_score.specs.Score.{pair_scale, pair_sum}
-
--- the least number of a list, and 0 where there is none
-abbrev pub least : List ℕ → ℕ
-least [] = 0
-least (n ∷ []) = n
-least (n ∷ (m ∷ ns)) = min n (least (m ∷ ns))
-
--- the least and the greatest of the times to a list of nodes
-abbrev pub span_over : (ℕ → ℕ) → List ℕ → ℕ × ℕ
-span_over time nodes = (least (map time nodes), greatest (map time nodes))
 
 -- a whole number, and 0 in place of one below 0
 abbrev pub excess : ℤ → ℕ
@@ -33,7 +23,8 @@ gap_of oa ob a b =
 -- at the scale of the greatest
 abbrev pub pair_bound : Shape → ProblemPick → ProblemPick → ℕ × ℕ → ℕ × ℕ → ℕ
 pair_bound shape a b s t =
-    weight_of a.weight b.weight (pair_scale a b s.0 t.0) * kernel_value shape (gap_of a.time b.time s t) (pair_scale a b s.1 t.1)
+    weight_of a.weight b.weight (pair_scale a b s.0 t.0)
+    * kernel_value shape (gap_of a.time b.time s t) (pair_scale a b s.1 t.1)
 
 -- the sum of the bounds of all pairs of picks, with the span of each row
 abbrev pub bound_by : Shape → (ℕ → ℕ × ℕ) → List ProblemPick → ℕ

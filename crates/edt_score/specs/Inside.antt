@@ -3,6 +3,7 @@ pub mod BoxDomination
 pub mod Domination
 pub mod Ends
 pub mod Families
+pub mod KeptFamily
 pub mod Lanes
 pub mod Pairs
 pub mod UsedRows

@@ -4,6 +4,9 @@ pub use Rattle.node_boxes.specs.Boxes
 pub use Rattle.node_boxes.specs.BoxNodes
 pub use Rattle.node_boxes.specs.Children
 pub use Rattle.node_boxes.specs.Octree
+pub use Rattle.node_boxes.specs.Roots
+pub use Rattle.minmax_pyramid.specs.Spans
+pub use Rattle.minmax_pyramid.specs.Rows
 pub use Rattle.pair_weights.specs.Scale
 pub use Rattle.pair_weights.specs.Weight
 pub use Rattle.kernel_table.specs.Kernel
@@ -18,4 +21,5 @@ pub mod Best
 pub mod Bound
 pub mod BoxBound
 pub mod Judging
+pub mod PyramidJudge
 pub mod Inside

@@ -1,31 +1,23 @@
-ghost use Rattle.std.specs.Prelude.{◌≡◌, ◌+◌, ◌^◌, ◌<◌, ◌≤◌, [], ◌∷◌, ◌++◌, length, IfOk, OnErr, OnOk};
+ghost use Rattle.std.specs.Prelude.{◌≡◌, ◌+◌, ◌^◌, ◌<◌, ◌≤◌, [], ◌∷◌, ◌++◌, All, length, IfOk, IfSome, OnErr, OnOk};
 ghost use Rattle.node_boxes.specs.Grid.{node_count};
+ghost use Rattle.node_boxes.specs.Octree.{IsOctreeBox};
+ghost use Rattle.node_boxes.specs.Roots.{AreRoots};
+ghost use Rattle.minmax_pyramid.specs.Families.{IsChildAt, IsFamilyOf};
+ghost use Rattle.edt_score.specs.BoxBound.{box_spans};
 ghost use Rattle.edt_score.specs.Field.{FieldTimes, IsField, IsRow, time_at};
+ghost use Rattle.edt_score.specs.Inside.Families.{AreRowSpans};
 
-use node_boxes::Grid;
+use minmax_pyramid::{Family, PyramidRows};
+use node_boxes::{Grid, NodeBox};
 use std::alloc::{AllocError, Global};
 use std::marker::Model;
 
-/// A grid and the travel times to its nodes: one row for each station and phase, with one time per
-/// node in grid order, in microseconds and at most 2,000,000,000.
+/// A grid, an octree over it and the travel times to its nodes: one row for each station and phase,
+/// with one time per node in grid order, in microseconds and at most 2,000,000,000.
 #[derive(Drop)]
 pub struct Field {
-    grid: Grid,
-    rows: Vec<Row>,
-}
-
-/// One time per node, in grid order.
-#[derive(Drop)]
-struct Row {
-    times: Vec<u32>,
-}
-
-impl Model for Row {
-    ghost use Rattle.std.specs.Prelude.{ℕ, List};
-
-    ghost Value = { List ℕ };
-
-    ghost view = { λ row. row.times.items };
+    alloc: Global,
+    pyramids: PyramidRows,
 }
 
 impl Model for Field {
@@ -33,19 +25,22 @@ impl Model for Field {
 
     ghost Value = { FieldTimes };
 
-    ghost view = { λ field. record { grid = field.grid; rows = field.rows.items } };
+    ghost view = { λ field. field.pyramids };
 
-    ghost invariant = { λ field. IsField (record { grid = field.grid; rows = field.rows.items }) };
+    ghost invariant = { λ field. IsField field.pyramids };
 }
 
 impl Field {
-    /// A field with this grid and no rows. Want of memory is the only refusal.
-    pub fn new(alloc: Global, grid: Grid) -> Result<Field, AllocError>
-        ensures { IfOk result (λ field. field ≡ record { grid = grid; rows = [] }) }
+    /// A field with this grid, these roots of an octree over it, as `node_boxes::roots` gives them,
+    /// and no rows. Want of memory is the only refusal.
+    pub fn new(alloc: Global, grid: Grid, roots: Vec<NodeBox>) -> Result<Field, AllocError>
+        requires { AreRoots grid roots.items }
+        ensures { IfOk result (λ field.
+            field ≡ record { grid = grid; roots = roots.items; rows = [] }) }
     {
         Ok(Field {
-            grid,
-            rows: Vec::new(alloc),
+            alloc,
+            pyramids: PyramidRows::new(alloc, grid, roots),
         })
     }
 
@@ -55,11 +50,12 @@ impl Field {
         requires row { IsRow self.old.grid times.items }
         requires room { length self.old.rows + 1 < 2 ^ 32 }
         ensures number { IfOk result (λ row. row ≡ length self.old.rows) }
-        ensures pushed { OnOk result (self.new ≡ record self.old { rows = self.old.rows ++ times.items ∷ [] }) }
+        ensures pushed { OnOk result
+            (self.new ≡ record self.old { rows = self.old.rows ++ times.items ∷ [] }) }
         ensures err { OnErr result (self.new ≡ self.old) }
     {
         let row = self.rows();
-        self.rows.push(Row { times })?;
+        self.pyramids.push_row(self.alloc, times)?;
         Ok(row)
     }
 
@@ -70,8 +66,45 @@ impl Field {
         ensures value { result ≡ time_at self.now row node }
         ensures limit { result ≤ 2000000000 }
     {
-        let row = &self.rows[row as usize];
-        row.times[node as usize]
+        self.pyramids.time(row as usize, node)
+    }
+
+    /// The least and the greatest time of a row at the nodes of an octree box.
+    pub(crate) fn span(&self, row: u32, area: &NodeBox) -> (u32, u32)
+        requires row { row < length self.now.rows }
+        requires tree { IsOctreeBox self.now.roots area.now }
+        ensures { result ≡ box_spans self.now area.now row }
+    {
+        self.pyramids
+            .span(row as usize, area)
+            .unwrap_or((0, u32::MAX))
+    }
+
+    /// The family of a box and its place among the children. `None` for a root, and it may come for
+    /// any box.
+    pub(crate) fn family_of(&self, area: &NodeBox) -> Option<(Family, usize)>
+        ensures family { IfSome result (λ found. IsFamilyOf self.now.roots found.0) }
+        ensures child { IfSome result (λ found. IsChildAt found.0.parent found.1 area.now) }
+        ensures few { IfSome result (λ found. found.1 < 8) }
+    {
+        let family = self.pyramids.find_family(area)?;
+        let place = family.place_of(area)?;
+        Some((family, place))
+    }
+
+    /// Writes the spans of rows over the children of a family.
+    pub(crate) fn fill_spans(&self, rows: &[u32], family: &Family, spans: &mut [[(u32, u32); 8]])
+        requires rows { All (λ row. row < length self.now.rows) rows.now }
+        requires family { IsFamilyOf self.now.roots family.now }
+        requires room { length spans.old ≡ length rows.now }
+        ensures room { length spans.new ≡ length rows.now }
+        ensures spans { let parent = family.now.parent in
+            AreRowSpans (length rows.now) self.now rows.now parent spans.new }
+    {
+        for (i, row) in rows.iter().enumerate() {
+            self.pyramids
+                .family_spans(*row as usize, family, &mut spans[i]);
+        }
     }
 
     /// How many rows the field has.
@@ -79,7 +112,7 @@ impl Field {
         ensures value { result ≡ length self.now.rows }
         ensures field { IsField self.now }
     {
-        self.rows.len() as u32
+        self.pyramids.rows() as u32
     }
 
     /// The grid.
@@ -87,6 +120,14 @@ impl Field {
         ensures value { result.now ≡ self.now.grid }
         ensures field { IsField self.now }
     {
-        &self.grid
+        self.pyramids.grid()
+    }
+
+    /// The roots of the octree.
+    pub fn roots(&self) -> &[NodeBox]
+        ensures value { result.now ≡ self.now.roots }
+        ensures field { IsField self.now }
+    {
+        self.pyramids.roots()
     }
 }

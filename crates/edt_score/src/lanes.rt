@@ -1,8 +1,8 @@
 //! The sums over all pairs of picks for eight boxes side by side.
 
-ghost use Rattle.std.specs.Prelude.{◌≡◌, ℕ, ◌+◌, ◌*◌, ◌^◌, ◌<◌, ◌≤◌, length, map, slice_index};
-ghost use Rattle.edt_score.specs.Inside.Ends.{ends_value, row_total, table_total};
-ghost use Rattle.edt_score.specs.Inside.Lanes.{lane};
+ghost use Rattle.std.specs.Prelude.{◌≡◌, ◌+◌, ◌*◌, ◌^◌, ◌≤◌, length, slice_index};
+ghost use Rattle.edt_score.specs.Inside.Ends.{ends_value};
+ghost use Rattle.edt_score.specs.Inside.Lanes.{EachAtMost, EachIs, lane, lane_row, lane_total};
 ghost use Rattle.edt_score.specs.Inside.Pairs.{pair_count};
 
 use crate::ends::Ends;
@@ -15,7 +15,7 @@ pub(crate) fn table_totals<V: Values>(values: &V, ends: &[[Ends; 8]], pairs: &[P
     requires few { length ends.now ≤ 256 }
     requires lengths { length pairs.now ≡ pair_count (length ends.now) }
     requires ready { V.Values.ready values.now }
-    ensures { (k : ℕ) → k < 8 → slice_index result k ≡ table_total (V.Values.shape values.now) (map (lane k) ends.now) pairs.now }
+    ensures { EachIs (lane_total (V.Values.shape values.now) ends.now pairs.now) result }
 {
     let mut sums = [0; 8];
     let mut rest = ends;
@@ -40,10 +40,11 @@ fn add_row<V: Values>(
     requires few { length others.now ≤ 256 }
     requires lengths { length pairs.now ≡ length others.now }
     requires ready { V.Values.ready values.now }
-    requires room { (k : ℕ) → k < 8 → slice_index sums.old k ≤ 9 * 10 ^ 18 }
-    ensures value { (k : ℕ) → k < 8 → slice_index sums.new k
-        ≡ slice_index sums.old k + row_total (V.Values.shape values.now) (lane k first.now) (map (lane k) others.now) pairs.now }
-    ensures bound { (k : ℕ) → k < 8 → slice_index sums.new k ≤ slice_index sums.old k + length others.now * 274877906944000 }
+    requires room { EachAtMost (λ k. 9 * 10 ^ 18) sums.old }
+    ensures value { let shape = V.Values.shape values.now in
+        EachIs (λ k. slice_index sums.old k + lane_row shape first.now others.now pairs.now k) sums.new }
+    ensures bound { let most = length others.now * 274877906944000 in
+        EachAtMost (λ k. slice_index sums.old k + most) sums.new }
 {
     for (i, other) in others.iter().enumerate() {
         add_pair(values, first, other, &pairs[i], sums);
@@ -59,10 +60,10 @@ fn add_pair<V: Values>(
     sums: &mut [u64; 8],
 )
     requires ready { V.Values.ready values.now }
-    requires room { (k : ℕ) → k < 8 → slice_index sums.old k ≤ 10 ^ 19 }
-    ensures value { (k : ℕ) → k < 8 → slice_index sums.new k
-        ≡ slice_index sums.old k + ends_value (V.Values.shape values.now) (lane k first.now) (lane k other.now) pair.now }
-    ensures bound { (k : ℕ) → k < 8 → slice_index sums.new k ≤ slice_index sums.old k + 274877906944000 }
+    requires room { EachAtMost (λ k. 10 ^ 19) sums.old }
+    ensures value { let value = ends_value (V.Values.shape values.now) in
+        EachIs (λ k. slice_index sums.old k + value (lane k first.now) (lane k other.now) pair.now) sums.new }
+    ensures bound { EachAtMost (λ k. slice_index sums.old k + 274877906944000) sums.new }
 {
     for k in 0..8 {
         sums[k] += term(values, &first[k], &other[k], pair);

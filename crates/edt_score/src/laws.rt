@@ -16,40 +16,50 @@ ghost use Rattle.edt_score.specs.Best.{IsFirstBest, best_score, first_best};
 /// The scale of a pair is the least from 1000 on that the variances at the node allow, a misfit of
 /// near picks fits 64 bits with room, and every score of a valid problem is below 9*10^18.
 pub fn score_law()
-    ensures scale { (a b : ProblemPick) (ta tb : ℕ) → IsScale (variance_at a ta) (variance_at b tb) (pair_scale a b ta tb) }
-    ensures misfit { (oa ob : ℤ) (ta tb : ℕ) → unsigned_abs (oa -ℤ ob) ≤ 2200000000000 → ta ≤ 2000000000 → tb ≤ 2000000000
-        → misfit_of oa ob ta tb ≤ 2202000000000 }
-    ensures bound { (shape : Shape) (times : ℕ → ℕ → ℕ) (field : FieldTimes) (problem : Problem) (node : ℕ) → IsValidProblem field problem
+    ensures scale { (a b : ProblemPick) (ta tb : ℕ)
+        → IsScale (variance_at a ta) (variance_at b tb) (pair_scale a b ta tb) }
+    ensures misfit { (oa ob : ℤ) (ta tb : ℕ) → unsigned_abs (oa -ℤ ob) ≤ 2200000000000
+        → ta ≤ 2000000000 → tb ≤ 2000000000 → misfit_of oa ob ta tb ≤ 2202000000000 }
+    ensures bound { (shape : Shape) (times : ℕ → ℕ → ℕ) (field : FieldTimes) (problem : Problem)
+        (node : ℕ) → IsValidProblem field problem
         → score_of shape times problem.picks.items node < 9 * 10 ^ 18 }
 {}
 
 /// A node is the first best exactly where it is the first of all nodes that has the greatest score;
 /// among any nodes there is one, and that score is the best.
 pub fn best_law()
-    ensures first { (n node : ℕ) (score : ℕ → ℕ) → IsFirstBest n score node → first_best n score ≡ Some node }
-    ensures back { (n node : ℕ) (score : ℕ → ℕ) → first_best n score ≡ Some node → IsFirstBest n score node }
-    ensures score { (n node : ℕ) (score : ℕ → ℕ) → IsFirstBest n score node → best_score n score ≡ score node }
+    ensures first { (n node : ℕ) (score : ℕ → ℕ) → IsFirstBest n score node
+        → first_best n score ≡ Some node }
+    ensures back { (n node : ℕ) (score : ℕ → ℕ) → first_best n score ≡ Some node
+        → IsFirstBest n score node }
+    ensures score { (n node : ℕ) (score : ℕ → ℕ) → IsFirstBest n score node
+        → best_score n score ≡ score node }
     ensures exists { (n : ℕ) (score : ℕ → ℕ) → 0 < n → (node : ℕ) × IsFirstBest n score node }
 {}
 
 /// The bound of a list of nodes is at least the score of each of them, at least the bound of any
 /// part of them, and the score itself where the list is one node; and it is below 9*10^18.
 pub fn bound_law()
-    ensures above { (shape : Shape) (times : ℕ → ℕ → ℕ) (picks : List ProblemPick) (nodes : List ℕ) (node : ℕ) → Contains nodes node
+    ensures above { (shape : Shape) (times : ℕ → ℕ → ℕ) (picks : List ProblemPick)
+        (nodes : List ℕ) (node : ℕ) → Contains nodes node
         → score_of shape times picks node ≤ bound_over shape times picks nodes }
-    ensures part { (shape : Shape) (times : ℕ → ℕ → ℕ) (picks : List ProblemPick) (part nodes : List ℕ) → IsPart part nodes
+    ensures part { (shape : Shape) (times : ℕ → ℕ → ℕ) (picks : List ProblemPick)
+        (part nodes : List ℕ) → IsPart part nodes
         → bound_over shape times picks part ≤ bound_over shape times picks nodes }
     ensures single { (shape : Shape) (times : ℕ → ℕ → ℕ) (picks : List ProblemPick) (node : ℕ)
         → bound_over shape times picks (node ∷ []) ≡ score_of shape times picks node }
-    ensures limit { (shape : Shape) (times : ℕ → ℕ → ℕ) (field : FieldTimes) (problem : Problem) (nodes : List ℕ)
-        → IsValidProblem field problem → bound_over shape times problem.picks.items nodes < 9 * 10 ^ 18 }
+    ensures limit { (shape : Shape) (times : ℕ → ℕ → ℕ) (field : FieldTimes) (problem : Problem)
+        (nodes : List ℕ) → IsValidProblem field problem
+        → bound_over shape times problem.picks.items nodes < 9 * 10 ^ 18 }
 {}
 
 /// The bound of a box is no less than those of its children, and that of the box of a node alone is
 /// the score of the node.
 pub fn box_bound_law()
-    ensures falls { (shape : Shape) (field : FieldTimes) (picks : List ProblemPick) (roots : List NodeBox)
-        → BoundsFall field.grid roots (box_bound shape field picks) }
-    ensures node { (shape : Shape) (field : FieldTimes) (picks : List ProblemPick) (node : ℕ) → node < node_count field.grid
-        → box_bound shape field picks (node_box field.grid node) ≡ score_of shape (time_at field) picks node }
+    ensures falls { (shape : Shape) (field : FieldTimes) (picks : List ProblemPick)
+        (roots : List NodeBox) → BoundsFall field.grid roots (box_bound shape field picks) }
+    ensures node { (shape : Shape) (field : FieldTimes) (picks : List ProblemPick) (node : ℕ)
+        → node < node_count field.grid
+        → box_bound shape field picks (node_box field.grid node)
+        ≡ score_of shape (time_at field) picks node }
 {}

@@ -14,15 +14,17 @@ mod lanes;
 mod laws;
 mod pairs;
 mod problem;
+mod pyramid_judge;
 mod scorer;
+#[cfg(test)]
+mod tests;
 mod totals;
 mod used_rows;
 mod values;
-#[cfg(test)]
-mod tests;
 
 pub use field::Field;
 pub use judge::Judge;
 pub use laws::{best_law, bound_law, box_bound_law, score_law};
 pub use problem::{Problem, ProblemPick};
+pub use pyramid_judge::PyramidJudge;
 pub use scorer::Scorer;

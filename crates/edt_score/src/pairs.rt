@@ -25,7 +25,8 @@ impl Model for Pair {
 
     ghost view = { λ pair. record { scale = pair.end / 4; weight = pair.weight } };
 
-    ghost invariant = { λ pair. IsReciprocal (pair.end / 4) pair.reciprocal pair.end × (pair.weight ≤ 262144000) };
+    ghost invariant = { λ pair.
+        IsReciprocal (pair.end / 4) pair.reciprocal pair.end × (pair.weight ≤ 262144000) };
 }
 
 impl Pair {

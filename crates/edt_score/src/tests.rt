@@ -1,12 +1,14 @@
-ghost use Rattle.std.specs.Prelude.{◌≡◌, ◌≤◌, ◌-ℤ◌, [], ◌∷◌, IfOk, length, unsigned_abs};
+ghost use Rattle.std.specs.Prelude.{◌≡◌, ◌+◌, ◌^◌, ◌<◌, ◌≤◌, ◌-ℤ◌, [], ◌∷◌, IfOk, length, unsigned_abs};
 ghost use Rattle.node_boxes.specs.Grid.{GridSize, grid_size};
+ghost use Rattle.node_boxes.specs.Boxes.{IsSplittable};
+ghost use Rattle.node_boxes.specs.Octree.{IsOctreeBox};
 ghost use Rattle.kernel_table.specs.Falloff.{AnswersItsShape};
 ghost use Rattle.edt_score.specs.Field.{IsRow};
 ghost use Rattle.edt_score.specs.Problem.{IsValidProblem};
 
-use crate::{Field, Problem, ProblemPick, Scorer};
+use crate::{Field, Judge, Problem, ProblemPick, PyramidJudge, Scorer};
 use kernel_table::{Falloff, Shape, count, gauss, triangle};
-use node_boxes::Grid;
+use node_boxes::{Grid, NodeBox, roots};
 use std::alloc::{AllocError, Global};
 use std::test::Fail;
 
@@ -26,7 +28,8 @@ fn two_rows(alloc: Global) -> Result<Field, Fail>
     ensures { IfOk result (λ field. (field.grid ≡ grid_size 3 1 1) × (length field.rows ≡ 2)) }
 {
     let grid = Grid::new(3, 1, 1).ok_or("three nodes")?;
-    let mut field = Field::new(alloc, grid)?;
+    let roots = roots(alloc, &grid, 1, 1, 1)?;
+    let mut field = Field::new(alloc, grid, roots)?;
     field.push_row(row(alloc, 0, 3125, 800_000)?)?;
     field.push_row(row(alloc, 0, 0, 0)?)?;
     Ok(field)
@@ -68,7 +71,8 @@ fn scores<F: Fn(u64, u64) -> u64>(
 fn rows_are_numbered_and_read_back(rt: HostRuntime) -> Result<(), Fail> {
     let alloc = rt.alloc();
     let grid = Grid::new(3, 1, 1).ok_or("three nodes")?;
-    let mut field = Field::new(alloc, grid)?;
+    let roots = roots(alloc, &grid, 1, 1, 1)?;
+    let mut field = Field::new(alloc, grid, roots)?;
     assert_eq!(rt; field.rows(), 0);
     assert_eq!(rt; field.push_row(row(alloc, 0, 3125, 800_000)?)?, 0);
     assert_eq!(rt; field.push_row(row(alloc, 7, 8, 2_000_000_000)?)?, 1);
@@ -105,5 +109,56 @@ fn scores_fall_with_the_misfit_under_each_kernel(rt: HostRuntime) -> Result<(), 
         scores(alloc, &field, &apart, &gaussian)?,
         [343_513_497_600, 343_597_383_680, 0]
     );
+    Ok(())
+}
+
+/// Two rows over four nodes in a line: a second apart, and the same everywhere.
+fn sample(alloc: Global) -> Result<Field, Fail>
+    ensures { IfOk result (λ field. (field.grid ≡ grid_size 4 1 1) × (length field.rows ≡ 2)) }
+{
+    let grid = Grid::new(4, 1, 1).ok_or("four nodes")?;
+    let roots = roots(alloc, &grid, 1, 1, 1)?;
+    let mut field = Field::new(alloc, grid, roots)?;
+    field.push_row(vec![in alloc; 1_000_000, 2_000_000, 3_000_000, 4_000_000]?)?;
+    field.push_row(vec![in alloc; 2_000_000; 4]?)?;
+    Ok(field)
+}
+
+/// The bounds of a box and of its first two children.
+fn family_bounds<J: Judge>(judge: &mut J, parent: &NodeBox) -> Option<[u64; 3]>
+    requires ready { J.Judge.ready judge.old }
+    requires tree { IsOctreeBox (J.Judge.roots judge.old) parent.now }
+    requires split { IsSplittable parent.now }
+    requires room { J.Judge.count judge.old + 3 < 2 ^ 64 }
+    ensures ready { J.Judge.ready judge.new }
+    ensures same_roots { J.Judge.roots judge.new ≡ J.Judge.roots judge.old }
+    ensures count { J.Judge.count judge.new ≤ J.Judge.count judge.old + 3 }
+{
+    let whole = judge.bound(parent);
+    let children = parent.children();
+    let first = judge.bound(&children.get(0)?);
+    let second = judge.bound(&children.get(1)?);
+    Some([whole, first, second])
+}
+
+#[test]
+fn bounds_of_the_sample_are_those_of_its_best_node_or_0(rt: HostRuntime) -> Result<(), Fail> {
+    let alloc = rt.alloc();
+    let field = sample(alloc)?;
+    let problem = two_picks(alloc, 0, 0)?;
+    let gaussian = Falloff::new(Shape::Gauss, |misfit, scale| gauss(misfit, scale));
+    let scorer = Scorer::new(alloc, &field, &problem, &gaussian)?;
+    let scores = [scorer.score(0), scorer.score(1)];
+    assert_eq!(rt; scores, [0, 343_597_383_680]);
+    let mut judge = PyramidJudge::new(scorer);
+    let root = *field.roots().first().ok_or("a root")?;
+    assert!(rt; !root.is_single());
+    let half = root.children().get(0).ok_or("a half")?;
+    assert!(rt; !half.is_single());
+    let bounds = family_bounds(&mut judge, &root).ok_or("two halves")?;
+    assert_eq!(rt; bounds, [343_597_383_680, 343_597_383_680, 0]);
+    let bounds = family_bounds(&mut judge, &half).ok_or("two nodes")?;
+    assert_eq!(rt; bounds, [343_597_383_680, scores[0], scores[1]]);
+    assert_eq!(rt; judge.asked(), 6);
     Ok(())
 }

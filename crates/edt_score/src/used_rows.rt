@@ -41,7 +41,8 @@ fn keep_row(rows: &mut Vec<u32>, row: u32) -> Result<usize, AllocError>
 
 /// The place of a row among the rows.
 fn place_of(rows: &[u32], row: u32) -> Option<usize>
-    ensures { IfSome result (λ place. (place < length rows.now) × (slice_index rows.now place ≡ row)) }
+    ensures { IfSome result (λ place.
+        (place < length rows.now) × (slice_index rows.now place ≡ row)) }
 {
     rows.iter().position(|kept| *kept == row)
 }

@@ -13,8 +13,8 @@ use Rattle.pair_weights.specs.Weight.{weight_of}
 use Rattle.pair_weights.proofs.Scales.{scale_of-is, scale_of-rises}
 use Rattle.pair_weights.proofs.Weights.{weight_of-falls}
 use Rattle.edt_score.specs.declared.problem.ProblemPick.{ProblemPick}
-use Rattle.edt_score.specs.Best.{greatest}
-use Rattle.edt_score.specs.Bound.{IsPart, bound_by, bound_over, excess, gap_of, least, pair_bound, span_over}
+use Rattle.edt_score.specs.Bound.{IsPart, bound_by, bound_over, excess, gap_of, pair_bound}
+use Rattle.minmax_pyramid.specs.Spans.{greatest, least, span_over}
 use Rattle.edt_score.specs.Score.{misfit_of, pair_scale, pair_score, pair_sum, score_of, variance_at}
 
 -- a span lies within another
@@ -111,7 +111,7 @@ bound_by-times shape times picks node =
     pair_sum-same (λ a b. pair_bound shape a b (times a.row node, times a.row node) (times b.row node, times b.row node))
     (λ a b. pair_score shape a b (times a.row node) (times b.row node))
     (λ a b. ap (λ gap. weight_of a.weight b.weight (pair_scale a b (times a.row node) (times b.row node)) * kernel_value shape gap (pair_scale a b (times a.row node) (times b.row node)))
-      (gap_of-times a.time b.time (times a.row node) (times b.row node)))
+    (gap_of-times a.time b.time (times a.row node) (times b.row node)))
     picks
 
 -- one of a list is its first or one of the others
@@ -124,7 +124,7 @@ contains-more n ns m (k, below, is) = (suc k, omega arith, is)
 
 module _ (time : ℕ → ℕ) where
   -- the least time is at most each, and is one of them
-  least-below : (nodes : List ℕ) (node : ℕ) → Contains nodes node → least (map time nodes) ≤ time node
+  pub least-below : (nodes : List ℕ) (node : ℕ) → Contains nodes node → least (map time nodes) ≤ time node
   least-below [] node (k, below, is) = absurd (omega arith)
   least-below (n ∷ []) node has = elim (contains-cases n [] node has) [
     | inl here ↦ omega (arith, ap time here)
@@ -135,7 +135,7 @@ module _ (time : ℕ → ℕ) where
     | inr later ↦ omega (arith, least-below (m ∷ ns) node later)
   ]
 
-  least-found : (nodes : List ℕ) → 0 < length nodes → (node : ℕ) × Contains nodes node × (least (map time nodes) ≡ time node)
+  pub least-found : (nodes : List ℕ) → 0 < length nodes → (node : ℕ) × Contains nodes node × (least (map time nodes) ≡ time node)
   least-found [] some = absurd (omega arith)
   least-found (n ∷ []) some = (n, (0, omega arith, refl), refl)
   least-found (n ∷ (m ∷ ns)) some =
@@ -146,14 +146,14 @@ module _ (time : ℕ → ℕ) where
       ]
 
   -- and the greatest is at least each, and is one of them
-  greatest-above : (nodes : List ℕ) (node : ℕ) → Contains nodes node → time node ≤ greatest (map time nodes)
+  pub greatest-above : (nodes : List ℕ) (node : ℕ) → Contains nodes node → time node ≤ greatest (map time nodes)
   greatest-above [] node (k, below, is) = absurd (omega arith)
   greatest-above (n ∷ ns) node has = elim (contains-cases n ns node has) [
     | inl here ↦ omega (arith, ap time here)
     | inr later ↦ omega (arith, greatest-above ns node later)
   ]
 
-  greatest-found : (nodes : List ℕ) → 0 < length nodes → (node : ℕ) × Contains nodes node × (greatest (map time nodes) ≡ time node)
+  pub greatest-found : (nodes : List ℕ) → 0 < length nodes → (node : ℕ) × Contains nodes node × (greatest (map time nodes) ≡ time node)
   greatest-found [] some = absurd (omega arith)
   greatest-found (n ∷ []) some = (n, (0, omega arith, refl), omega arith)
   greatest-found (n ∷ (m ∷ ns)) some =

@@ -34,12 +34,14 @@ ends_value shape a b pair = pair.weight * kernel_value shape (ends_gap a b) pair
 abbrev pub row_total : Shape → Ends → List Ends → List PairTerms → ℕ
 row_total shape first [] pairs = 0
 row_total shape first (other ∷ others) [] = 0
-row_total shape first (other ∷ others) (pair ∷ pairs) = ends_value shape first other pair + row_total shape first others pairs
+row_total shape first (other ∷ others) (pair ∷ pairs) =
+    ends_value shape first other pair + row_total shape first others pairs
 
 -- what all pairs of ends are worth
 abbrev pub table_total : Shape → List Ends → List PairTerms → ℕ
 table_total shape [] pairs = 0
-table_total shape (first ∷ others) pairs = row_total shape first others pairs + table_total shape others (drop (length others) pairs)
+table_total shape (first ∷ others) pairs =
+    row_total shape first others pairs + table_total shape others (drop (length others) pairs)
 
 -- a span in order, of times that fit 32 bits
 pub record IsTimeSpan (span : ℕ × ℕ) : Type 0 where

@@ -1,4 +1,4 @@
-use Rattle.edt_score.specs.Bound.{span_over}
+use Rattle.minmax_pyramid.specs.Spans.{span_over}
 use Rattle.edt_score.specs.Inside.Domination.{bound_over-above, bound_over-one, bound_over-part}
 use Rattle.edt_score.proofs.ScoreBounds.{bound_by-limit}
 use Rattle.edt_score.proofs.laws.bound_law.Goals as goal

@@ -35,7 +35,7 @@ returns-clause-value g c =
     let ends = rw c.as_slice-picks.ensures.value at simp to_z-of_z at c.fill_points.ensures in
     let start = (get_or problem.picks.items 0 none).time in
     let near = IsNear-points field start c.args.node problem.picks.items c.rows-rows.ensures.field c.requires.node
-        (IsReadable-picks field problem none c.args.self.now.valid) in
+    (IsReadable-picks field problem none c.args.self.now.valid) in
     c.total.ensures.value ∙ rw (c.args.self.now.pairs_kept, ends)
     (table_total-bound shape start (point (time_at field) c.args.node) problem.picks.items near)
     ∙ bound_by-times shape (time_at field) problem.picks.items c.args.node
