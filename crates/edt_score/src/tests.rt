@@ -1,7 +1,6 @@
-ghost use Rattle.std.specs.Prelude.{◌≡◌, ◌+◌, ◌^◌, ◌<◌, ◌≤◌, ◌-ℤ◌, [], ◌∷◌, IfOk, length, unsigned_abs};
+ghost use Rattle.std.specs.Prelude.{◌≡◌, ◌≤◌, ◌-ℤ◌, [], ◌∷◌, IfOk, length, unsigned_abs};
 ghost use Rattle.node_boxes.specs.Grid.{GridSize, grid_size};
-ghost use Rattle.node_boxes.specs.Boxes.{IsSplittable};
-ghost use Rattle.node_boxes.specs.Octree.{IsOctreeBox};
+ghost use Rattle.node_boxes.specs.Roots.{AreRoots};
 ghost use Rattle.kernel_table.specs.Falloff.{AnswersItsShape};
 ghost use Rattle.edt_score.specs.Field.{IsRow};
 ghost use Rattle.edt_score.specs.Problem.{IsValidProblem};
@@ -112,7 +111,7 @@ fn scores_fall_with_the_misfit_under_each_kernel(rt: HostRuntime) -> Result<(), 
     Ok(())
 }
 
-/// Two rows over four nodes in a line: a second apart, and the same everywhere.
+/// Two rows over four nodes in a line, a second apart and the same everywhere.
 fn sample(alloc: Global) -> Result<Field, Fail>
     ensures { IfOk result (λ field. (field.grid ≡ grid_size 4 1 1) × (length field.rows ≡ 2)) }
 {
@@ -124,21 +123,43 @@ fn sample(alloc: Global) -> Result<Field, Fail>
     Ok(field)
 }
 
-/// The bounds of a box and of its first two children.
-fn family_bounds<J: Judge>(judge: &mut J, parent: &NodeBox) -> Option<[u64; 3]>
+/// The bound of the first root, and those of its first two children.
+fn root_and_halves<J: Judge>(judge: &mut J, roots: &[NodeBox]) -> Option<[u64; 3]>
     requires ready { J.Judge.ready judge.old }
-    requires tree { IsOctreeBox (J.Judge.roots judge.old) parent.now }
-    requires split { IsSplittable parent.now }
-    requires room { J.Judge.count judge.old + 3 < 2 ^ 64 }
-    ensures ready { J.Judge.ready judge.new }
-    ensures same_roots { J.Judge.roots judge.new ≡ J.Judge.roots judge.old }
-    ensures count { J.Judge.count judge.new ≤ J.Judge.count judge.old + 3 }
+    requires roots { J.Judge.roots judge.old ≡ roots.now }
+    requires are { AreRoots (J.Judge.grid judge.old) roots.now }
+    requires room { J.Judge.count judge.old ≡ 0 }
 {
-    let whole = judge.bound(parent);
-    let children = parent.children();
-    let first = judge.bound(&children.get(0)?);
-    let second = judge.bound(&children.get(1)?);
-    Some([whole, first, second])
+    if roots.is_empty() || roots[0].is_single() {
+        return None;
+    }
+    let root = &roots[0];
+    let whole = judge.bound(root);
+    let children = root.children();
+    let Some(first) = children.get(0) else {
+        return None;
+    };
+    let first_half = judge.bound(&first);
+    let Some(second) = children.get(1) else {
+        return None;
+    };
+    Some([whole, first_half, judge.bound(&second)])
+}
+
+/// The same by the judge over pyramids, and how often it was asked.
+fn bounds<F: Fn(u64, u64) -> u64>(
+    alloc: Global,
+    field: &Field,
+    problem: &Problem,
+    falloff: &Falloff<F>,
+) -> Result<(Option<[u64; 3]>, u64), AllocError>
+    requires valid { IsValidProblem field.now problem.now }
+    requires answers { AnswersItsShape F.Fn falloff.now }
+{
+    let scorer = Scorer::new(alloc, field, problem, falloff)?;
+    let mut judge = PyramidJudge::new(scorer);
+    let bounds = root_and_halves(&mut judge, field.roots());
+    Ok((bounds, judge.asked()))
 }
 
 #[test]
@@ -147,18 +168,9 @@ fn bounds_of_the_sample_are_those_of_its_best_node_or_0(rt: HostRuntime) -> Resu
     let field = sample(alloc)?;
     let problem = two_picks(alloc, 0, 0)?;
     let gaussian = Falloff::new(Shape::Gauss, |misfit, scale| gauss(misfit, scale));
-    let scorer = Scorer::new(alloc, &field, &problem, &gaussian)?;
-    let scores = [scorer.score(0), scorer.score(1)];
-    assert_eq!(rt; scores, [0, 343_597_383_680]);
-    let mut judge = PyramidJudge::new(scorer);
-    let root = *field.roots().first().ok_or("a root")?;
-    assert!(rt; !root.is_single());
-    let half = root.children().get(0).ok_or("a half")?;
-    assert!(rt; !half.is_single());
-    let bounds = family_bounds(&mut judge, &root).ok_or("two halves")?;
-    assert_eq!(rt; bounds, [343_597_383_680, 343_597_383_680, 0]);
-    let bounds = family_bounds(&mut judge, &half).ok_or("two nodes")?;
-    assert_eq!(rt; bounds, [343_597_383_680, scores[0], scores[1]]);
-    assert_eq!(rt; judge.asked(), 6);
+    assert_eq!(rt;
+        bounds(alloc, &field, &problem, &gaussian)?,
+        (Some([343_597_383_680, 343_597_383_680, 0]), 3)
+    );
     Ok(())
 }
