@@ -1,7 +1,7 @@
 ghost use Rattle.std.specs.Prelude.{◌≤◌};
 ghost use Rattle.kernel_table.specs.Falloff.{AnswersItsShape};
 
-use crate::{Falloff, Shape, count, gauss, triangle};
+use crate::{Falloff, Shape, count, gauss, gauss_by, reciprocal, triangle};
 
 /// The last misfit that 64 times fits in a `u64`.
 const NARROW: u64 = u64::MAX / 64;
@@ -27,6 +27,15 @@ fn gauss_steps_through_the_table_and_ends_with_it(rt: HostRuntime) {
     ] {
         assert!(rt; scale >= 1);
         assert_eq!(rt; gauss(misfit, scale), value, "at {misfit} over {scale}");
+    }
+}
+
+#[test]
+fn the_product_reads_the_place_of_the_quotient(rt: HostRuntime) {
+    let factor = reciprocal(200_000);
+    for misfit in [0, 3124, 3125, 6250, 799_999, 800_000, u64::MAX] {
+        let value = gauss_by(misfit, factor, 800_000);
+        assert_eq!(rt; value, gauss(misfit, 200_000), "at {misfit}");
     }
 }
 
