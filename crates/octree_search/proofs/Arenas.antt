@@ -1,9 +1,8 @@
 -- Opening a box, and boxes that stand after others.
-use Rattle.std.proofs.Common.{◌≡◌, ◌≢◌, ℕ, ◌+◌, ◌-◌, ◌<◌, ◌≤◌, arith, List, [], ◌∷◌, ◌++◌, length, map, take, drop, get_or, set, refl, ap, sym, ◌∙◌, subst, Option, Some, None}
-use Rattle.std.specs.Prelude.{MatchOption}
+use Rattle.std.proofs.Common.{◌≡◌, ℕ, ◌<◌, ◌≤◌, arith, List, [], ◌∷◌, ◌++◌, length, map, take, drop, get_or, set, refl, ap, ◌∙◌, Some, None}
 use Rattle.std.proofs.Math.Seq.{map-set_same}
 use Rattle.std.proofs.lemmas.Grind.{get_or-set_at}
-use Rattle.std.proofs.lemmas.List.{length-set, length-take, length-drop, length-append, get_or-set_other, get_or_default, take-append-le, drop-append-le, map-append}
+use Rattle.std.proofs.lemmas.List.{length-set, length-take, length-drop, get_or-set_other, get_or_default, take-append-le, drop-append-le, map-append}
 use Rattle.node_boxes.specs.declared.node_box.NodeBox.{NodeBox}
 use Rattle.node_boxes.specs.Children.{children_of}
 use Rattle.octree_search.specs.declared.arena.Met.{Met}

@@ -1,6 +1,6 @@
 -- What was found is the outcome.
-use Rattle.std.proofs.Common.{◌≡◌, ◌⊎◌, inl, inr, ℕ, ◌+◌, ◌≤◌, ◌<◌, arith, Bool, true, false, List, [], ◌∷◌, length, map, take, refl, ap, sym, ◌∙◌, subst, filter, All}
-use Rattle.std.specs.Prelude.{◌==◌, nat_le, nat_lt, if◌then◌else◌, unwrap_or, option_map, Option, Some, None, Result, Ok, Err, IfOk}
+use Rattle.std.proofs.Common.{◌≡◌, inl, inr, ℕ, ◌+◌, ◌≤◌, ◌<◌, arith, Bool, true, false, List, [], ◌∷◌, length, map, take, refl, ap, sym, ◌∙◌, subst, filter}
+use Rattle.std.specs.Prelude.{◌==◌, nat_le, nat_lt, if◌then◌else◌, unwrap_or, option_map, Result, Ok, Err, IfOk}
 use Rattle.std.specs.List.{find}
 use Rattle.std.specs.List.Sorted.{IsPermutation, IsNonDecreasingBy}
 use Rattle.std.proofs.lemmas.Bool.Decides.{nat_tests}
@@ -9,15 +9,15 @@ use Rattle.node_boxes.specs.declared.node_box.BoxBound.{BoxBound}
 use Rattle.node_boxes.specs.Grid.{GridSize, node_count}
 use Rattle.node_boxes.specs.GridOrder.{all_nodes}
 use Rattle.node_boxes.specs.Roots.{AreRoots}
-use Rattle.edt_score.specs.Best.{best_score, first_best}
+use Rattle.edt_score.specs.Best.{first_best}
 use Rattle.edt_score.specs.Judging.{BoundsFall, judged_score}
 use Rattle.octree_search.specs.declared.arena.Met.{Met}
 use Rattle.octree_search.specs.declared.found.Found.{Found}
 use Rattle.octree_search.specs.declared.found.Found.TheVariants.{Located, NoFit, Budget, NearLimit}
 use Rattle.octree_search.specs.Cover.{cover_of, threshold_of}
-use Rattle.octree_search.specs.Near.{best_of, is_near, near_list, scored}
+use Rattle.octree_search.specs.Near.{best_of, near_list}
 use Rattle.octree_search.specs.Fewest.{IsShortest, IsCoverShortest}
-use Rattle.octree_search.specs.Outcomes.{Outcome, LocatedValue, IsLocated, FitsNowhere, PassesBudget, PassesNearLimit, Asks, bounded, event_cover, event_met, event_near, event_threshold, found_of, found_value, located_value, outcome_of}
+use Rattle.octree_search.specs.Outcomes.{LocatedValue, IsLocated, FitsNowhere, PassesBudget, PassesNearLimit, Asks, bounded, event_cover, event_met, event_near, event_threshold, found_of, found_value, located_value, outcome_of}
 use Rattle.octree_search.specs.Inside.Arena.{areas_met, IsExplored}
 use Rattle.octree_search.specs.Inside.NearBoxes.{near_in}
 use Rattle.octree_search.proofs.Choices.{by_test}

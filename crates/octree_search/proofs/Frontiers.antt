@@ -1,27 +1,23 @@
 -- The boxes that were met and those of them that wait, in the course of a search.
-use Rattle.std.proofs.Common.{◌≡◌, ◌≢◌, ◌⊎◌, inl, inr, ℕ, zero, suc, ◌+◌, ◌-◌, ◌*◌, ◌≤◌, ◌<◌, arith, Bool, true, false, List, [], ◌∷◌, ◌++◌, length, map, take, drop, get_or, max, refl, ap, sym, ◌∙◌, subst, sum_by, Contains, Option, Some, None, All}
-use Rattle.std.specs.Prelude.{◌||◌, nat_lt, if◌then◌else◌, MatchOption}
+use Rattle.std.proofs.Common.{◌≡◌, ◌≢◌, inl, inr, ℕ, zero, suc, ◌+◌, ◌-◌, ◌≤◌, ◌<◌, arith, false, List, [], ◌∷◌, ◌++◌, length, map, get_or, refl, ap, sym, ◌∙◌, subst, Contains, Option, Some, None, All}
+use Rattle.std.specs.Prelude.{◌||◌, nat_lt, MatchOption}
 use Rattle.std.specs.List.{AllByRecursion}
 use Rattle.std.specs.List.Sorted.{IsPermutation}
-use Rattle.std.proofs.Math.Nat.{eq-or-lt_of_le}
-use Rattle.std.proofs.Math.Seq.{take-length, drop-append_seam, get_or-append_right}
+use Rattle.std.proofs.Math.Seq.{get_or-append_right}
 use Rattle.std.proofs.lemmas.Bool.{cases_lt, cases_eq}
-use Rattle.std.proofs.lemmas.Bool.Decides.{nat_tests}
-use Rattle.std.proofs.lemmas.List.{append_assoc, length-append, length-map, get_or_append_left, get_or_default, get_or-map}
-use Rattle.std.proofs.lemmas.List.Elements.{Contains-append_right, Contains-append_left, All-from_recursion, recursion_from_All, All-append}
+use Rattle.std.proofs.lemmas.List.{length-append, length-map, get_or_append_left}
+use Rattle.std.proofs.lemmas.List.Elements.{Contains-append_right, Contains-append_left, All-from_recursion, recursion_from_All}
 use Rattle.std.proofs.lemmas.List.Sorted.{All-permutation, Contains-permutation}
-use Rattle.std.proofs.lemmas.List.Sums.{sum_by-cons, sum_by-append}
 use Rattle.node_boxes.specs.declared.node_box.NodeBox.{NodeBox}
 use Rattle.node_boxes.specs.Boxes.{is_single}
-use Rattle.node_boxes.specs.Children.{children_of}
 use Rattle.node_boxes.specs.Octree.{IsOctreeBox}
 use Rattle.node_boxes.proofs.Lists.{all-append, first_or_rest}
 use Rattle.octree_search.specs.declared.arena.Met.{Met}
 use Rattle.octree_search.specs.declared.queue.Waiting.{Waiting}
 use Rattle.octree_search.specs.Cover.{threshold_of, stops}
 use Rattle.octree_search.specs.Inside.Arena.{areas_met, fresh, waiting, IsLinked, IsOpened}
-use Rattle.octree_search.specs.Inside.Meeting.{best_with, best_after, wait_of, waits}
-use Rattle.octree_search.proofs.Choices.{by_test, neither, both_ways}
+use Rattle.octree_search.specs.Inside.Meeting.{best_with, best_after, waits}
+use Rattle.octree_search.proofs.Choices.{by_test, neither}
 use Rattle.octree_search.proofs.Arenas.{linked_more, areas_more}
 use Rattle.octree_search.proofs.Meetings.{waits_have, wait_not, wait_so}
 

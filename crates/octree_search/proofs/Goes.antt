@@ -1,6 +1,6 @@
 -- How a search goes on: what holds before and after each box that is opened, and when it ends.
-use Rattle.std.proofs.Common.{◌≡◌, ◌≢◌, ◌⊎◌, inl, inr, ℕ, zero, suc, ◌+◌, ◌-◌, ◌*◌, ◌≤◌, ◌<◌, arith, Bool, true, false, List, [], ◌∷◌, ◌++◌, length, map, take, drop, get_or, max, refl, ap, sym, ◌∙◌, subst, sum_by, Contains, Option, Some, None, All, le_antisymm}
-use Rattle.std.specs.Prelude.{◌||◌, nat_lt, MatchOption}
+use Rattle.std.proofs.Common.{◌≡◌, inl, inr, ℕ, zero, suc, ◌+◌, ◌≤◌, ◌<◌, arith, true, false, List, [], ◌∷◌, ◌++◌, length, map, take, drop, get_or, max, refl, ap, sym, ◌∙◌, subst, sum_by, Contains, All}
+use Rattle.std.specs.Prelude.{nat_lt}
 use Rattle.std.specs.List.{AllByRecursion}
 use Rattle.std.specs.List.Sorted.{IsPermutation}
 use Rattle.std.proofs.Math.Seq.{take-length, drop-append_seam}
@@ -16,20 +16,19 @@ use Rattle.node_boxes.specs.Boxes.{IsNonempty, IsSplittable, is_single}
 use Rattle.node_boxes.specs.Children.{children_of}
 use Rattle.node_boxes.specs.Roots.{AreRoots}
 use Rattle.node_boxes.specs.Octree.{IsOctreeBox, Root}
-use Rattle.node_boxes.proofs.Lists.{all-append}
 use Rattle.node_boxes.proofs.OctreeBoxes.{octree_inside, in_nonempty}
 use Rattle.edt_score.specs.Judging.{BoundsFall}
 use Rattle.octree_search.specs.declared.arena.Met.{Met}
 use Rattle.octree_search.specs.declared.queue.Waiting.{Waiting}
-use Rattle.octree_search.specs.Cover.{threshold_of, stops, below, boxes_met}
+use Rattle.octree_search.specs.Cover.{threshold_of, stops, below}
 use Rattle.octree_search.specs.Near.{best_of}
 use Rattle.octree_search.specs.Outcomes.{event_threshold, event_met}
-use Rattle.octree_search.specs.Inside.Arena.{areas_met, fresh, waiting, IsLinked, IsOpened, IsBranch, IsTree, IsSettled, IsExplored}
+use Rattle.octree_search.specs.Inside.Arena.{areas_met, fresh, waiting, IsLinked, IsOpened, IsExplored}
 use Rattle.octree_search.specs.Inside.Meeting.{best_after, waits}
-use Rattle.octree_search.proofs.Choices.{by_test, neither, both_ways, or_second}
+use Rattle.octree_search.proofs.Choices.{by_test, neither, or_second}
 use Rattle.octree_search.proofs.Arenas.{areas_more}
 use Rattle.octree_search.proofs.Covers.{below_open, below_stop}
-use Rattle.octree_search.proofs.Frontiers.{IsEntry, IsQueued, IsFrontier, IsState, frontier_permuted, frontier_more, frontier_opened, state_map}
+use Rattle.octree_search.proofs.Frontiers.{IsQueued, IsFrontier, frontier_permuted, frontier_more, frontier_opened, state_map}
 use Rattle.octree_search.proofs.Meetings.{best_after-le, best_after-up, left_waits, few_waits, waits_under}
 use Rattle.octree_search.proofs.Scores.{IsUnder, best_below, dominated, octree_children, under_children}
 use Rattle.octree_search.proofs.Thresholds.{threshold_some, threshold_up, threshold_le}

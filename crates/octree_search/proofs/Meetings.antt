@@ -1,5 +1,5 @@
 -- Boxes that are met one after another.
-use Rattle.std.proofs.Common.{◌≡◌, ◌⊎◌, inl, inr, ℕ, zero, suc, ◌+◌, ◌≤◌, ◌<◌, arith, Bool, true, false, List, [], ◌∷◌, ◌++◌, length, get_or, map, take, max, refl, ap, sym, ◌∙◌, subst, sum_by, Contains}
+use Rattle.std.proofs.Common.{◌≡◌, inl, inr, ℕ, zero, suc, ◌+◌, ◌≤◌, ◌<◌, arith, Bool, true, false, List, [], ◌∷◌, ◌++◌, length, get_or, map, take, max, refl, ap, sym, ◌∙◌, subst, sum_by, Contains}
 use Rattle.std.specs.Prelude.{◌||◌, nat_lt, if◌then◌else◌}
 use Rattle.std.specs.List.{AllByRecursion}
 use Rattle.std.specs.List.Sorted.{IsPermutation}
@@ -10,7 +10,7 @@ use Rattle.std.proofs.lemmas.List.Elements.{Contains-append_right}
 use Rattle.std.proofs.lemmas.List.Sums.{sum_by-cons, sum_by-append}
 use Rattle.node_boxes.specs.declared.node_box.NodeBox.{NodeBox}
 use Rattle.node_boxes.specs.Grid.{GridSize}
-use Rattle.node_boxes.specs.Boxes.{IsIn, is_single}
+use Rattle.node_boxes.specs.Boxes.{is_single}
 use Rattle.node_boxes.specs.Roots.{AreRoots}
 use Rattle.node_boxes.specs.Octree.{IsOctreeBox}
 use Rattle.node_boxes.proofs.OctreeBoxes.{octree_inside}

@@ -1,9 +1,8 @@
 -- The near nodes of a cover, in order, are the near list.
-use Rattle.std.proofs.Common.{◌≡◌, ◌⊎◌, inl, inr, ℕ, zero, suc, ◌+◌, ◌≤◌, ◌<◌, arith, Bool, true, false, cond, List, [], ◌∷◌, ◌++◌, length, map, get_or, refl, ap, sym, ◌∙◌, subst, sum_by, filter, All, Contains}
-use Rattle.std.specs.Prelude.{◌==◌, ◌&&◌, nat_le, nat_lt, if◌then◌else◌}
-use Rattle.std.specs.List.{AllByRecursion, flat_map, range_with_len}
+use Rattle.std.proofs.Common.{◌≡◌, inl, inr, ℕ, ◌+◌, ◌≤◌, ◌<◌, arith, Bool, true, false, cond, List, [], ◌∷◌, map, refl, ap, sym, ◌∙◌, subst, sum_by, filter, All}
+use Rattle.std.specs.Prelude.{◌&&◌, nat_le, nat_lt, if◌then◌else◌}
+use Rattle.std.specs.List.{AllByRecursion, range_with_len}
 use Rattle.std.specs.List.Sorted.{IsPermutation, IsNonDecreasingBy}
-use Rattle.std.proofs.lemmas.Bool.{cases_eq}
 use Rattle.std.proofs.lemmas.Bool.Decides.{nat_tests}
 use Rattle.std.proofs.lemmas.List.Elements.{All-from_recursion, recursion_from_All}
 use Rattle.std.proofs.lemmas.List.Sorted.{All-permutation, sum_by-IsPermutation}
@@ -11,7 +10,7 @@ use Rattle.std.proofs.lemmas.List.Sums.{sum_by-cons}
 use Rattle.node_boxes.specs.declared.node_box.NodeBox.{NodeBox}
 use Rattle.node_boxes.specs.declared.node_box.BoxBound.{BoxBound}
 use Rattle.node_boxes.specs.Grid.{GridSize, node_count}
-use Rattle.node_boxes.specs.GridOrder.{IsInside, all_nodes, node_number, place_of}
+use Rattle.node_boxes.specs.GridOrder.{IsInside, node_number, place_of}
 use Rattle.node_boxes.specs.Boxes.{IsIn, IsNonempty, IsPartOf, contains, holds, is_single}
 use Rattle.node_boxes.specs.Children.{children_of}
 use Rattle.node_boxes.specs.Roots.{AreRoots, holders}
@@ -29,7 +28,7 @@ use Rattle.octree_search.proofs.Choices.{by_test, or_cases, neither, all-both, s
 use Rattle.octree_search.proofs.Covers.{by_cover, cover_open, cover_stop}
 use Rattle.octree_search.proofs.FewestBoxes.{cover_parts}
 use Rattle.octree_search.proofs.Goes.{root_trees}
-use Rattle.octree_search.proofs.Scores.{IsUnder, dominated, octree_children, single_unit, unit_at}
+use Rattle.octree_search.proofs.Scores.{dominated, octree_children, single_unit, unit_at}
 use Rattle.octree_search.proofs.SortedNodes.{hit, hit_same, hit_other, ascends_from, sorted_is}
 
 -- whether an entry is that of a node

@@ -1,27 +1,25 @@
 -- Bounds and scores: a box has no node that scores more than its bound.
-use Rattle.std.proofs.Common.{◌≡◌, ◌⊎◌, inl, inr, ℕ, zero, suc, ◌+◌, ◌*◌, ◌-◌, ◌≤◌, ◌<◌, arith, Bool, true, false, cond, List, [], ◌∷◌, length, get_or, refl, ap, sym, ◌∙◌, subst, sum_by, Contains, Some, All}
-use Rattle.std.specs.Prelude.{◌==◌, ◌&&◌, nat_le, nat_lt}
+use Rattle.std.proofs.Common.{◌≡◌, inl, inr, ℕ, zero, suc, ◌+◌, ◌≤◌, arith, true, false, cond, List, [], ◌∷◌, refl, ap, sym, ◌∙◌, Contains}
+use Rattle.std.specs.Prelude.{nat_lt}
 use Rattle.std.specs.List.{AllByRecursion}
 use Rattle.std.proofs.lemmas.Bool.{cases_lt}
 use Rattle.std.proofs.lemmas.Bool.Decides.{nat_tests}
-use Rattle.std.proofs.lemmas.List.Elements.{Contains-get_or}
 use Rattle.std.proofs.lemmas.List.Sums.{sum_by-cons}
 use Rattle.node_boxes.specs.declared.node_box.NodeBox.{NodeBox}
 use Rattle.node_boxes.specs.Grid.{GridSize, node_count}
 use Rattle.node_boxes.specs.GridOrder.{IsInside, place_of, node_number}
-use Rattle.node_boxes.specs.Boxes.{IsIn, IsNonempty, IsPartOf, IsSplittable, contains, is_single, node_count_of}
+use Rattle.node_boxes.specs.Boxes.{IsIn, IsNonempty, contains, is_single}
 use Rattle.node_boxes.specs.Children.{children_of}
 use Rattle.node_boxes.specs.Roots.{AreRoots, holders}
-use Rattle.node_boxes.specs.Octree.{IsOctreeBox, Root, Child}
-use Rattle.node_boxes.proofs.ChildBoxes.{children_once, children_parts}
-use Rattle.node_boxes.proofs.Lists.{all-weaker, all-contains}
+use Rattle.node_boxes.specs.Octree.{IsOctreeBox, Child}
+use Rattle.node_boxes.proofs.ChildBoxes.{children_once}
+use Rattle.node_boxes.proofs.Lists.{all-weaker}
 use Rattle.node_boxes.proofs.OctreeBoxes.{octree_inside, in_nonempty}
 use Rattle.node_boxes.proofs.Order.{node_number-below, place_of-number, place_of-inside}
-use Rattle.edt_score.specs.Best.{best_score, IsFirstBest}
+use Rattle.edt_score.specs.Best.{best_score}
 use Rattle.edt_score.specs.Judging.{BoundsFall, judged_score, node_box}
 use Rattle.edt_score.proofs.BestNodes.{best_score-above, best_score-is, IsFirstBest-exists}
 use Rattle.octree_search.specs.Near.{best_of}
-use Rattle.octree_search.specs.Cover.{stops}
 use Rattle.octree_search.proofs.Choices.{by_test, or_cases, neither, all-both}
 use Rattle.octree_search.proofs.Covers.{by_cover}
 

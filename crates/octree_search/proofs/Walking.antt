@@ -1,13 +1,12 @@
 -- The cover, read off the boxes that were met.
-use Rattle.std.proofs.Common.{◌≡◌, ℕ, zero, suc, ◌+◌, ◌≤◌, ◌<◌, arith, true, false, List, [], ◌∷◌, ◌++◌, length, map, take, drop, get_or, refl, ap, sym, ◌∙◌, subst, Option, Some, None, All}
+use Rattle.std.proofs.Common.{◌≡◌, ℕ, zero, suc, ◌+◌, ◌≤◌, ◌<◌, arith, true, false, List, [], ◌∷◌, ◌++◌, length, map, take, drop, get_or, refl, ap, sym, ◌∙◌, subst, Some, None, All}
 use Rattle.std.specs.Prelude.{MatchOption}
-use Rattle.std.specs.List.{flat_map, AllByRecursion}
 use Rattle.std.proofs.lemmas.Grind.{flat_map-append}
 use Rattle.std.proofs.lemmas.List.{append-nil, append_assoc, length-drop, length-map, length-take, get_or-drop, get_or-take, map-append, take_all, take_more}
 use Rattle.std.proofs.lemmas.List.Elements.{All-from_recursion}
 use Rattle.node_boxes.specs.declared.node_box.NodeBox.{NodeBox}
 use Rattle.node_boxes.specs.declared.node_box.BoxBound.{BoxBound}
-use Rattle.node_boxes.specs.Boxes.{IsNonempty, IsSplittable, is_single, node_count_of}
+use Rattle.node_boxes.specs.Boxes.{IsSplittable, is_single, node_count_of}
 use Rattle.node_boxes.specs.Children.{children_of}
 use Rattle.node_boxes.proofs.ChildBoxes.{children_smaller}
 use Rattle.octree_search.specs.declared.arena.Met.{Met}

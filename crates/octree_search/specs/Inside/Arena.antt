@@ -1,5 +1,5 @@
 -- The boxes that were met, in the order of meeting, each linked to its children where it was opened.
-use Rattle.std.specs.Prelude.{◌≡◌, ◌≢◌, ℕ, ◌<◌, Bool, true, false, List, length, map, take, drop, All, Option, Some, None, MatchOption, slice_index_or}
+use Rattle.std.specs.Prelude.{◌≡◌, ◌≢◌, ℕ, true, false, List, length, map, take, drop, All, Some, None, MatchOption, slice_index_or}
 use Rattle.node_boxes.specs.declared.node_box.NodeBox.{NodeBox}
 use Rattle.node_boxes.specs.Boxes.{IsNonempty, is_single}
 use Rattle.node_boxes.specs.Children.{children_of}

@@ -1,4 +1,4 @@
-use Rattle.std.proofs.Common.{◌≡◌, ◌<◌, [], arith, length, get_or}
+use Rattle.std.proofs.Common.{◌<◌, [], arith, length, get_or}
 use Rattle.std.proofs.lemmas.List.{length-map}
 use Rattle.octree_search.specs.declared.arena.Met.{Met}
 use Rattle.octree_search.specs.Inside.Arena.{areas_met, no_box}

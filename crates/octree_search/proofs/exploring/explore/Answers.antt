@@ -1,4 +1,4 @@
-use Rattle.std.proofs.Common.{◌≡◌, ◌+◌, ◌++◌, ◌≤◌, ◌<◌, [], ◌∷◌, List, true, false, arith, refl, sym, ap, ◌∙◌, subst, length, map, max, nat_lt, All}
+use Rattle.std.proofs.Common.{◌≡◌, ◌+◌, ◌++◌, List, arith, sym, ap, ◌∙◌, subst, length, map, All}
 use Rattle.std.specs.List.Sorted.{IsPermutation}
 use Rattle.std.proofs.lemmas.List.{length-append, length-map}
 use Rattle.std.proofs.lemmas.List.Elements.{All-from_recursion}
@@ -7,10 +7,7 @@ use Rattle.node_boxes.specs.Children.{children_of}
 use Rattle.node_boxes.specs.Octree.{IsOctreeBox}
 use Rattle.edt_score.specs.Judging.{BoundsFall}
 use Rattle.octree_search.specs.declared.arena.Met.{Met}
-use Rattle.octree_search.specs.declared.queue.Waiting.{Waiting}
-use Rattle.octree_search.specs.Cover.{threshold_of, stops}
-use Rattle.octree_search.specs.Outcomes.{event_threshold}
-use Rattle.octree_search.specs.Inside.Arena.{fresh, IsOpened, IsExplored}
+use Rattle.octree_search.specs.Inside.Arena.{fresh, IsOpened}
 use Rattle.octree_search.specs.Inside.Meeting.{best_after, waits}
 use Rattle.octree_search.proofs.Goes.{root_trees, past_roots, goes_start, goes_opened, work_less, past_budget, top_queued, top_splittable, top_within, ends_low, opens_high, ends_empty}
 use Rattle.octree_search.proofs.exploring.explore.Goals as goal

@@ -1,9 +1,7 @@
-use Rattle.std.proofs.Common.{◌≡◌, ◌≤◌, arith, sym, ap, ◌∙◌, refl, subst, length, take, map, All}
-use Rattle.std.specs.List.Sorted.{IsPermutation}
+use Rattle.std.proofs.Common.{arith, sym, refl, subst, length, All}
 use Rattle.node_boxes.specs.declared.node_box.BoxBound.{BoxBound}
 use Rattle.node_boxes.specs.Boxes.{IsIn}
-use Rattle.octree_search.specs.Outcomes.{event_cover, event_threshold}
-use Rattle.octree_search.specs.Inside.NearBoxes.{near_in}
+use Rattle.octree_search.specs.Outcomes.{event_threshold}
 use Rattle.octree_search.proofs.Findings.{cover_is, least_is, near_found, found_none, found_many, hyp_found, found_located}
 use Rattle.octree_search.proofs.NearLists.{cover_boxes_inside}
 use Rattle.octree_search.proofs.searching.found_from.Goals as goal

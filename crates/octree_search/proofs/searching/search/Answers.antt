@@ -1,13 +1,10 @@
-use Rattle.std.proofs.Common.{◌≡◌, ◌+◌, ◌≤◌, ◌<◌, List, arith, sym, ap, ◌∙◌, refl, subst, length}
-use Rattle.std.specs.Prelude.{IfOk}
+use Rattle.std.proofs.Common.{◌≡◌, ◌+◌, ◌≤◌, ◌<◌, List, arith, ◌∙◌, refl, subst, length}
 use Rattle.std.proofs.lemmas.Option.{MatchOption-at_some, MatchOption-at_none}
 use Rattle.node_boxes.specs.declared.node_box.NodeBox.{NodeBox}
 use Rattle.node_boxes.specs.Grid.{GridSize}
 use Rattle.edt_score.specs.Judging.{BoundsFall}
-use Rattle.octree_search.specs.declared.found.Found.{Found}
-use Rattle.octree_search.specs.declared.exploring.Explored.{Explored}
 use Rattle.octree_search.specs.Fewest.{IsCoverShortest}
-use Rattle.octree_search.specs.Outcomes.{Asks, event_met, event_threshold, found_of, found_value, outcome_of}
+use Rattle.octree_search.specs.Outcomes.{event_met, event_threshold, found_of, found_value, outcome_of}
 use Rattle.octree_search.specs.Inside.Arena.{IsExplored}
 use Rattle.octree_search.proofs.Findings.{outcome_within, outcome_past, asks_all, shortest_found, ok_then, asks_result}
 use Rattle.octree_search.proofs.searching.search.Goals as goal

@@ -1,4 +1,4 @@
-use Rattle.std.proofs.Common.{◌≡◌, sym, subst, All}
+use Rattle.std.proofs.Common.{sym, subst, All}
 use Rattle.std.proofs.lemmas.List.Elements.{All-from_recursion}
 use Rattle.node_boxes.specs.Children.{children_of}
 use Rattle.node_boxes.specs.Octree.{IsOctreeBox}
