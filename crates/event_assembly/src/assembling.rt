@@ -47,7 +47,8 @@ pub fn assemble<S: Shelf>(
     ensures faults { RisesExactly (assemble_failed result) (S.faults shelf.old) (S.faults shelf.new) }
     ensures misses { RisesExactly (assemble_absent result) (S.misses shelf.old) (S.misses shelf.new) }
     ensures lacks_stay { S.lacks shelf.old ≤ S.lacks shelf.new }
-    ensures lacks { IfOk result (λ assembly. IsTrue (lacks_a_grid assembly.events.items) → Rose (S.lacks shelf.old) (S.lacks shelf.new)) }
+    ensures lacks { IfOk result (λ assembly.
+        IsTrue (lacks_a_grid assembly.events.items) → Rose (S.lacks shelf.old) (S.lacks shelf.new)) }
     ensures calls { S.calls shelf.old ≤ S.calls shelf.new }
 {
     let keys = wanted(alloc, control, events)?;

@@ -45,10 +45,12 @@ pub(crate) fn read_rows<S: Shelf>(
     requires control { IsControl control.now }
     requires keys { All IsKey keys.now }
     requires ratios { All (IsConvertible (values_of control.now)) keys.now }
-    requires headers { IfSome (S.files shelf.old) (λ files. headers.now ≡ map (header_in files (values_of control.now)) keys.now) }
+    requires headers { IfSome (S.files shelf.old) (λ files.
+        headers.now ≡ map (header_in files (values_of control.now)) keys.now) }
     requires few { length rows.now < 2 ^ 32 }
     requires rows { All (IsRowKey keys.now headers.now) rows.now }
-    ensures told { IfSome (S.files shelf.old) (λ files. ReadsRows files (values_of control.now) (keys_at keys.now rows.now) result) }
+    ensures told { IfSome (S.files shelf.old) (λ files.
+        ReadsRows files (values_of control.now) (keys_at keys.now rows.now) result) }
     ensures grid { IfOk result (λ field. field.grid ≡ control.now.frame.grid) }
     ensures roots { IfOk result (λ field. field.roots ≡ roots_for (values_of control.now)) }
     ensures one_each { IfOk result (λ field. length field.rows ≡ length rows.now) }
@@ -99,7 +101,8 @@ fn read_row<S: Shelf>(
     requires ratio { IsConvertible (values_of control.now) key.now }
     requires header { IsValidHeader header.now }
     requires room { 4 ≤ length buffer.old }
-    ensures told { IfSome (S.files shelf.old) (λ files. ReadsRow files (values_of control.now) key.now header.now result) }
+    ensures told { IfSome (S.files shelf.old) (λ files.
+        ReadsRow files (values_of control.now) key.now header.now result) }
     ensures row { IfOk result (λ times. IsRow control.now.frame.grid times.items) }
     ensures cause { IfErr result HasBodyCause }
     ensures ended { OnOk result (OnSome (S.files shelf.old) (S.left shelf.new ≡ Some [])) }
@@ -131,7 +134,8 @@ fn read_times<S: Shelf>(
     requires name { name ≡ body_name (values_of control.now) key.now }
     requires room { 4 ≤ length buffer.old }
     requires places { length times.old ≡ node_count control.now.frame.grid }
-    ensures told { IfSome (S.files shelf.old) (λ files. ReadsTimes files (values_of control.now) key.now header.now times.new result) }
+    ensures told { IfSome (S.files shelf.old) (λ files.
+        ReadsTimes files (values_of control.now) key.now header.now times.new result) }
     ensures row { OnOk result (IsRow control.now.frame.grid times.new) }
     ensures cause { IfErr result HasBodyCause }
     ensures ended { OnOk result (OnSome (S.files shelf.old) (S.left shelf.new ≡ Some [])) }

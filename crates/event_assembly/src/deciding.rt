@@ -31,7 +31,8 @@ pub(crate) fn decide(
     requires differ { KeysDiffer keys.now }
     requires holds { All (λ event. HoldsKeysOf (values_of control.now) keys.now event.picks.items) events.now }
     requires near { All IsPlace places.now }
-    ensures { IfOk result (λ decided. AreDecided (values_of control.now) keys.now places.now (picks_of_events events.now) decided.items) }
+    ensures { IfOk result (λ decided.
+        AreDecided (values_of control.now) keys.now places.now (picks_of_events events.now) decided.items) }
 {
     let mut table = KeyTable::new(alloc, control, keys, places)?;
     let mut decided = Vec::with_capacity(alloc, events.len())?;

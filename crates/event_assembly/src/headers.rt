@@ -39,7 +39,8 @@ pub(crate) fn read_headers<S: Shelf>(
     ensures faults { RisesExactly (assemble_failed result) (S.faults shelf.old) (S.faults shelf.new) }
     ensures misses { RisesExactly (assemble_absent result) (S.misses shelf.old) (S.misses shelf.new) }
     ensures lacks_stay { S.lacks shelf.old ≤ S.lacks shelf.new }
-    ensures lacks { IfOk result (λ headers. IsTrue (list_any is_none headers.items) → Rose (S.lacks shelf.old) (S.lacks shelf.new)) }
+    ensures lacks { IfOk result (λ headers.
+        IsTrue (list_any is_none headers.items) → Rose (S.lacks shelf.old) (S.lacks shelf.new)) }
     ensures calls { S.calls shelf.old ≤ S.calls shelf.new }
 {
     let mut headers = Vec::with_capacity(alloc, keys.len())?;

@@ -20,7 +20,8 @@ pub(crate) fn prepare(
     row_of_key: &[u32],
 ) -> Result<Vec<Prepared>, AllocError>
     requires { All (λ picks. All (λ pick. pick.key < length row_of_key.now) picks.used.items) decided.items }
-    ensures { IfOk result (λ prepared. map event_value prepared.items ≡ map (event_by (values_of control.now) row_of_key.now) decided.items) }
+    ensures { IfOk result (λ prepared.
+        map event_value prepared.items ≡ map (event_by (values_of control.now) row_of_key.now) decided.items) }
 {
     let mut prepared = Vec::with_capacity(alloc, decided.len())?;
     for picks in decided {

@@ -42,8 +42,10 @@ impl Rows {
     // Takes the next key, which gets a row where it is marked.
     fn take_key(&mut self, key: u32, marked: bool) -> Result<(), AllocError>
         requires { length self.old.keys.items < 2 ^ 32 }
-        ensures keys { OnOk result (self.new.keys.items ≡ (if marked then self.old.keys.items ++ key ∷ [] else self.old.keys.items)) }
-        ensures row { OnOk result (self.new.row_of_key.items ≡ self.old.row_of_key.items ++ length self.old.keys.items ∷ []) }
+        ensures keys { OnOk result (self.new.keys.items
+            ≡ (if marked then self.old.keys.items ++ key ∷ [] else self.old.keys.items)) }
+        ensures row { OnOk result (self.new.row_of_key.items
+            ≡ self.old.row_of_key.items ++ length self.old.keys.items ∷ []) }
     {
         self.row_of_key.push(self.keys.len() as u32)?;
         if marked {
@@ -62,7 +64,8 @@ pub(crate) fn mark_keys(
 ) -> Result<Vec<bool>, AllocError>
     requires { All (AreUsed keys) decided.now }
     ensures long { IfOk result (λ marks. length marks.items ≡ keys) }
-    ensures marks { IfOk result (λ marks. (k : ℕ) → get_or marks.items k false ≡ list_any (λ picks. needs_key (values_of control.now) k picks.used.items) decided.now) }
+    ensures marks { IfOk result (λ marks. (k : ℕ) → get_or marks.items k false ≡ list_any (λ picks.
+        needs_key (values_of control.now) k picks.used.items) decided.now) }
 {
     let mut marks = vec![in alloc; false; keys]?;
     for picks in decided {
@@ -74,7 +77,8 @@ pub(crate) fn mark_keys(
 // Marks the keys that the used picks of an event have, where it is ready.
 fn mark_if_ready(control: &Control, marks: &mut [bool], used: &[UsedPick])
     requires { All (IsUsedPick (length marks.old)) used.now }
-    ensures { (k : ℕ) → get_or marks.new k false ≡ (get_or marks.old k false || needs_key (values_of control.now) k used.now) }
+    ensures { (k : ℕ)
+        → get_or marks.new k false ≡ (get_or marks.old k false || needs_key (values_of control.now) k used.now) }
 {
     if is_ready(control, used) {
         mark_used(marks, used);

@@ -21,7 +21,8 @@ pub fn report(
     event: &Prepared,
     outcome: Outcome,
 ) -> Result<Vec<u8>, AllocError>
-    ensures { IfOk result (λ text. text.items ≡ block_text number event.now.picks.used.items event.now.picks.skipped.items outcome) }
+    ensures { IfOk result (λ text.
+        text.items ≡ block_text number event.now.picks.used.items event.now.picks.skipped.items outcome) }
 {
     let mut out = Vec::new(alloc);
     push_event(

@@ -190,7 +190,8 @@ fn weight_of(pick: &Pick) -> u32
 fn variance_of(control: &Control, pick: &Pick) -> u64
     requires sigma { control.now.sigma ≤ 10 ^ 8 }
     requires error { unsigned_abs pick.now.error ≤ 10 ^ 8 }
-    ensures { result ≡ control.now.sigma * control.now.sigma + unsigned_abs pick.now.error * unsigned_abs pick.now.error }
+    ensures { result
+        ≡ control.now.sigma * control.now.sigma + unsigned_abs pick.now.error * unsigned_abs pick.now.error }
 {
     let error = pick.error.unsigned_abs();
     control.sigma * control.sigma + error * error

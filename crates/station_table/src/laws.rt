@@ -11,7 +11,8 @@ ghost use Rattle.station_table.specs.Using.{used_picks, skipped_picks, usable_co
 pub fn first_ones_are_used()
     ensures used { (control : ControlValues) (keys : List GridKey) (places : List Place) (picks : List Pick)
         → IsTrue (int_lt (pos 0) control.max_phases)
-        → length (used_picks control keys places picks) ≡ min (unsigned_abs control.max_phases) (usable_count control keys places picks) }
+        → length (used_picks control keys places picks)
+        ≡ min (unsigned_abs control.max_phases) (usable_count control keys places picks) }
     ensures beyond { (control : ControlValues) (keys : List GridKey) (places : List Place) (before : List Pick)
         → is_beyond control keys places before ≡ is_full control (length (used_picks control keys places before)) }
 {}
@@ -20,9 +21,14 @@ pub fn first_ones_are_used()
 /// behind the skipped ones.
 pub fn each_pick_is_in_one_list()
     ensures count { (control : ControlValues) (keys : List GridKey) (places : List Place) (picks : List Pick)
-        → length (used_picks control keys places picks) + length (skipped_picks control keys places picks) ≡ length picks }
-    ensures used { (control : ControlValues) (keys : List GridKey) (places : List Place) (before : List Pick) (pick : Pick)
-        → used_picks control keys places (before ++ pick ∷ []) ≡ used_picks control keys places before ++ if_used control keys pick (reason_of control keys places before pick) }
-    ensures skipped { (control : ControlValues) (keys : List GridKey) (places : List Place) (before : List Pick) (pick : Pick)
-        → skipped_picks control keys places (before ++ pick ∷ []) ≡ skipped_picks control keys places before ++ if_skipped control pick (reason_of control keys places before pick) }
+        → length (used_picks control keys places picks) + length (skipped_picks control keys places picks)
+        ≡ length picks }
+    ensures used { (control : ControlValues) (keys : List GridKey) (places : List Place) (before : List Pick)
+        (pick : Pick)
+        → used_picks control keys places (before ++ pick ∷ []) ≡ used_picks control keys places before
+        ++ if_used control keys pick (reason_of control keys places before pick) }
+    ensures skipped { (control : ControlValues) (keys : List GridKey) (places : List Place) (before : List Pick)
+        (pick : Pick)
+        → skipped_picks control keys places (before ++ pick ∷ []) ≡ skipped_picks control keys places before
+        ++ if_skipped control pick (reason_of control keys places before pick) }
 {}

@@ -28,8 +28,10 @@ pub fn wanted(
 ) -> Result<Vec<GridKey>, AllocError>
     requires control { IsControl control.now }
     requires events { All IsEvent events.now }
-    ensures value { IfOk result (λ keys. keys.items ≡ wanted_keys (values_of control.now) (picks_of_events events.now)) }
-    ensures holds { IfOk result (λ keys. All (λ event. HoldsKeysOf (values_of control.now) keys.items event.picks.items) events.now) }
+    ensures value { IfOk result (λ keys.
+        keys.items ≡ wanted_keys (values_of control.now) (picks_of_events events.now)) }
+    ensures holds { IfOk result (λ keys. All (λ event.
+        HoldsKeysOf (values_of control.now) keys.items event.picks.items) events.now) }
     ensures differ { IfOk result (λ keys. KeysDiffer keys.items) }
     ensures limits { IfOk result (λ keys. All IsKey keys.items) }
     ensures count { IfOk result (λ keys. length keys.items ≤ 4096 * length events.now) }
@@ -61,7 +63,8 @@ fn put_key<'a>(
     control: &'a Control,
     pick: &'a Pick,
 ) -> Result<(), AllocError>
-    ensures { OnOk result (index.new ≡ insert_all same_key index.old (keys_of (values_of control.now) (pick.now ∷ []))) }
+    ensures { OnOk result (index.new
+        ≡ insert_all same_key index.old (keys_of (values_of control.now) (pick.now ∷ []))) }
 {
     let named = NamedPick::of(control, pick);
     match named.reason {
