@@ -1,17 +1,17 @@
 -- What the status of a run says, by how the run ended.
-use Rattle.std.proofs.Common.{◌≡◌, ℕ, ◌==◌, ◌||◌, Bool, true, false, List, [], ◌∷◌, Option, Some, None, IfSome, IfErr, Result, Ok, Err, inl, inr, refl, sym, ◌∙◌, ap, subst, arith}
+use Rattle.std.proofs.Common.{◌≡◌, ℕ, ◌==◌, ◌||◌, Bool, true, false, List, [], ◌∷◌, Option, Some, None, IfSome, IfErr, Result, Ok, Err, inl, inr, refl, sym, ◌∙◌, subst, arith}
 use Rattle.std.specs.Prelude.{IsTrue}
 use Rattle.std.proofs.lemmas.Bool.Decides.{nat_tests}
 use Rattle.text_terms.proofs.Cases.{by_bool}
 use Rattle.edt_outside.specs.Shelves.{Files}
-use Rattle.run_input.specs.Refusals.{is_untold, status_of}
+use Rattle.run_input.specs.Refusals.{status_of}
 use Rattle.run_input.specs.Statuses.{is_one_of}
 use Rattle.edt_top.specs.declared.refusals.RunRefusal.{RunRefusal}
 use Rattle.edt_top.specs.declared.refusals.RunRefusal.TheVariants.{Problem, ProblemTooLong, Input, Write}
 use Rattle.edt_top.specs.Commands.{RunCommand, Solve, Locate}
 use Rattle.edt_top.specs.RunEndings.{RunEnding, run_ending}
-use Rattle.edt_top.specs.RunRefusals.{CanRefuse, is_named_run, is_untold_run, run_line, run_status, status_after}
-use Rattle.edt_top.specs.Runs.{Answers, IsWritten, Refuses, TellsLine}
+use Rattle.edt_top.specs.RunRefusals.{CanRefuse, is_named_run, is_untold_run, run_status, status_after}
+use Rattle.edt_top.specs.Runs.{Answers, IsWritten, TellsLine}
 use Rattle.edt_top.specs.Inside.Endings.{HasCause, ToldAfter}
 use Rattle.edt_top.proofs.StatusLaws.{no_input_status}
 

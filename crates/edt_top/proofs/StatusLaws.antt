@@ -1,5 +1,5 @@
 -- The statuses of refusals, and what was written with each.
-use Rattle.std.proofs.Common.{◌≡◌, ℕ, ◌<◌, ◌==◌, Bool, true, false, List, [], ◌∷◌, length, Option, Some, None, IfSome, Err, inl, inr, refl, sym, ◌∙◌, ap, subst, arith}
+use Rattle.std.proofs.Common.{◌≡◌, ℕ, true, false, List, [], ◌∷◌, Option, Some, None, IfSome, Err, inl, inr, refl, sym, ◌∙◌, subst, arith}
 use Rattle.std.specs.Prelude.{IsTrue}
 use Rattle.edt_outside.specs.Shelves.{Files}
 use Rattle.edt_outside.specs.Sinks.{Appends}
@@ -8,7 +8,6 @@ use Rattle.run_input.specs.declared.refusals.Refusal.{Refusal}
 use Rattle.run_input.specs.declared.refusals.Refusal.TheVariants.{Control, ControlTooLong, Phases, PhasesTooLong, Header, HeaderLong, Body, Align, Cells, Absent, Read, Memory}
 use Rattle.run_input.specs.Refusals.{status_of}
 use Rattle.run_input.specs.Statuses.{is_one_of}
-use Rattle.edt_top.specs.declared.refusals.RunRefusal.{RunRefusal}
 use Rattle.edt_top.specs.declared.writing.WriteFault.{WriteFault}
 use Rattle.edt_top.specs.declared.writing.WriteFault.TheVariants.{Failed, Memory as no_memory}
 use Rattle.edt_top.specs.RunRefusals.{run_status, is_untold_run}

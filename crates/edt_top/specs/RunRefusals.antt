@@ -1,5 +1,5 @@
 -- The refusals of a run: the status and the line of each.
-use Rattle.std.specs.Prelude.{◌≡◌, ℕ, ◌≤◌, Bool, true, false, ◌&&◌, IsTrue, List, [], ◌∷◌, Result, Ok, Err, ⊤, ◌⊎◌, codes, decimal}
+use Rattle.std.specs.Prelude.{◌≡◌, ℕ, ◌≤◌, Bool, true, false, IsTrue, List, [], ◌∷◌, Result, Ok, Err, ⊤, ◌⊎◌, codes, decimal}
 use Rattle.edt_top.specs.declared.refusals.RunRefusal.{RunRefusal}
 use Rattle.edt_top.specs.declared.refusals.RunRefusal.TheVariants.{Problem, ProblemTooLong, Input, Write}
 use Rattle.edt_top.specs.declared.solve.problem_cursor.ProblemFault.{ProblemFault}

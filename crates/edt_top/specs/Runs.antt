@@ -1,5 +1,5 @@
 -- What the status of a run says of its text and its line, and which statuses a run can have.
-use Rattle.std.specs.Prelude.{◌≡◌, ℕ, ◌<◌, List, [], ◌∷◌, length, take, flat_map, IsTrue, Option, Some, None, Ok, Err, ⊤, ◌⊎◌}
+use Rattle.std.specs.Prelude.{◌≡◌, ℕ, ◌<◌, List, [], ◌∷◌, length, take, flat_map, IsTrue, Option, Some, Ok, Err, ◌⊎◌}
 use Rattle.run_input.specs.Inputs.{InputValues}
 use Rattle.run_input.specs.Lines.{words_line}
 use Rattle.run_input.specs.Statuses.{is_one_of}

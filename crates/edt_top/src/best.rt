@@ -28,8 +28,10 @@ pub fn best_node<F: Fn(u64, u64) -> u64>(
 ) -> Result<Best, AllocError>
     requires valid { IsValidProblem field.now problem.now }
     requires answers { AnswersItsShape F.Fn falloff.now }
-    ensures first { IfOk result (λ best. IsFirstBest (node_count field.now.grid) (score_of (shape_of falloff.now) (time_at field.now) problem.now.picks.items) best.node) }
-    ensures score { IfOk result (λ best. best.score ≡ score_of (shape_of falloff.now) (time_at field.now) problem.now.picks.items best.node) }
+    ensures first { IfOk result (λ best. IsFirstBest (node_count field.now.grid)
+        (score_of (shape_of falloff.now) (time_at field.now) problem.now.picks.items) best.node) }
+    ensures score { IfOk result (λ best. best.score
+        ≡ score_of (shape_of falloff.now) (time_at field.now) problem.now.picks.items best.node) }
 {
     let scorer = Scorer::new(alloc, field, problem, falloff)?;
     Ok(first_best(&scorer, field.grid().nodes()))

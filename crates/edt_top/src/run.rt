@@ -54,7 +54,8 @@ pub fn locate_run<S: Shelf, O: Sink, E: Sink>(
     ensures statuses { IsTrue (is_one_of result (0 ∷ 2 ∷ 3 ∷ 4 ∷ 5 ∷ 6 ∷ 7 ∷ 8 ∷ 9 ∷ [])) }
     ensures no_shape { (result ≡ 2) ↔ (command_of (map string_bytes words.now) ≡ None) }
     ensures told { IfSome (S.files shelf.old) (λ files. IfSome (command_of (map string_bytes words.now)) (λ command.
-        Answers (run_ending files command) result (Wrote O.taken out.old out.new) (Told E.taken E.faults err.old err.new))) }
+        Answers (run_ending files command) result (Wrote O.taken out.old out.new)
+        (Told E.taken E.faults err.old err.new))) }
     ensures complete { IfSome (S.files shelf.old) (λ files. IfSome (command_of (map string_bytes words.now)) (λ command.
         IsOk (run_ending files command)
         → (Rose (S.faults shelf.old) (S.faults shelf.new) → ⊥) → (Rose (O.faults out.old) (O.faults out.new) → ⊥)
@@ -64,7 +65,8 @@ pub fn locate_run<S: Shelf, O: Sink, E: Sink>(
     ensures parts { IfSome (command_of (map string_bytes words.now)) (λ command.
         WritesParts command result (Wrote O.taken out.old out.new)) }
     ensures silent { result ≢ 0 → result ≢ 6 → result ≢ 8 → O.taken out.new ≡ O.taken out.old }
-    ensures line { TellsLine (command_of (map string_bytes words.now)) result (Told E.taken E.faults err.old err.new)
+    ensures line { TellsLine (command_of (map string_bytes words.now)) result
+        (Told E.taken E.faults err.old err.new)
         ((E.taken err.new ≡ E.taken err.old) × (E.faults err.new ≡ E.faults err.old)) }
 
     // The causes, on every shelf and every sink.
@@ -124,7 +126,8 @@ fn run<S: Shelf, O: Sink>(
         IsTrue (is_one_of (run_status refusal) (3 ∷ 4 ∷ [])) → S.lacks shelf.new ≡ S.lacks shelf.old) }
     ensures solve_lacks { IsTrue (is_solve (command_value command.now)) → S.lacks shelf.new ≡ S.lacks shelf.old }
     ensures calls { S.calls shelf.old ≤ S.calls shelf.new }
-    ensures solve_calls { IsTrue (is_solve (command_value command.now)) → S.calls shelf.new ≤ S.calls shelf.old + 16777219 }
+    ensures solve_calls { IsTrue (is_solve (command_value command.now))
+        → S.calls shelf.new ≤ S.calls shelf.old + 16777219 }
     ensures ended { OnOk result (OnSome (S.files shelf.old) (S.left shelf.new ≡ Some [])) }
 {
     match command {

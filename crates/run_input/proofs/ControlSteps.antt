@@ -1,15 +1,13 @@
 -- A control file, read with the files that it includes.
-use Rattle.std.proofs.Common.{◌≡◌, ◌≢◌, ℕ, ◌+◌, ◌≤◌, List, [], ◌∷◌, ◌++◌, length, map, Option, Some, None, IfSome, unwrap_or, slice_get, true, false, refl, sym, ◌∙◌, ap, subst}
+use Rattle.std.proofs.Common.{◌≡◌, ◌≢◌, ℕ, List, [], ◌∷◌, ◌++◌, length, map, Option, Some, None, IfSome, unwrap_or, slice_get, true, false, sym, ◌∙◌, ap}
 use Rattle.std.specs.Option.{option_map}
 use Rattle.std.specs.Global.{Vec}
 use Rattle.edt_outside.specs.Shelves.{Files}
 use Rattle.control_reader.specs.declared.control.Control.{Control}
-use Rattle.control_reader.specs.declared.fault.ControlCause.{ControlCause}
 use Rattle.control_reader.specs.declared.fault.ControlCause.TheVariants.{Memory}
 use Rattle.control_reader.specs.declared.fault.ControlFault.{ControlFault}
 use Rattle.control_reader.specs.ControlFile.{IsReading, IsControlFault, fault_at, line_place}
 use Rattle.control_reader.specs.ControlLines.{ControlLine, control_lines, file_lines}
-use Rattle.control_reader.specs.ControlValues.{values_of}
 use Rattle.control_reader.specs.Includes.{AreIncludes, IsIncludeFault, name_fault_at}
 use Rattle.control_reader.specs.ValuesOfLines.{values_in}
 use Rattle.control_reader.proofs.ValueSteps.{says_values}

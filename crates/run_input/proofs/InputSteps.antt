@@ -1,5 +1,5 @@
 -- The input of a run, from its stages.
-use Rattle.std.proofs.Common.{◌≡◌, ℕ, List, Option, Some, None, IfSome, Result, Ok, Err, true, false, refl, sym, ◌∙◌, ap, subst}
+use Rattle.std.proofs.Common.{◌≡◌, ℕ, List, Option, Some, None, IfSome, Result, Ok, Err, false, refl}
 use Rattle.edt_outside.specs.Shelves.{Files}
 use Rattle.control_reader.specs.declared.control.Control.{Control}
 use Rattle.control_reader.specs.ControlValues.{values_of}
@@ -10,7 +10,6 @@ use Rattle.event_assembly.specs.declared.faults.AssembleFault.{AssembleFault}
 use Rattle.event_assembly.specs.declared.faults.AssembleFault.TheVariants.{Absent, Failed, Header, HeaderLong, Body, Align, Cells, Memory}
 use Rattle.event_assembly.specs.Answers.{IsTold}
 use Rattle.event_assembly.specs.AssemblyValues.{AssemblyValues, assembly_of}
-use Rattle.run_input.specs.declared.input.RunInput.{RunInput}
 use Rattle.run_input.specs.declared.refusals.Refusal.{Refusal}
 use Rattle.run_input.specs.FirstRefusals.{control_refusal, phases_refusal}
 use Rattle.run_input.specs.Inputs.{input_of, input_value}

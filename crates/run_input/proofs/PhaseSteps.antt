@@ -1,9 +1,8 @@
 -- A phase file, read.
-use Rattle.std.proofs.Common.{◌≡◌, ◌≢◌, ℕ, ◌+◌, ◌≤◌, List, [], ◌∷◌, length, count_by, Option, Some, None, IfSome, unwrap_or, true, false, refl, sym, ◌∙◌, ap, subst}
+use Rattle.std.proofs.Common.{◌≡◌, ◌≢◌, ℕ, List, [], ◌∷◌, length, count_by, Option, Some, None, IfSome, unwrap_or, true, false, sym, ◌∙◌, ap}
 use Rattle.std.specs.Option.{option_map}
 use Rattle.std.specs.Global.{Vec}
 use Rattle.edt_outside.specs.Shelves.{Files}
-use Rattle.phase_reader.specs.declared.fault.PhaseCause.{PhaseCause}
 use Rattle.phase_reader.specs.declared.fault.PhaseCause.TheVariants.{Memory}
 use Rattle.phase_reader.specs.declared.fault.PhaseFault.{PhaseFault}
 use Rattle.phase_reader.specs.declared.phases.Phases.{Phases}

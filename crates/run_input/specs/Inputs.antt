@@ -1,5 +1,5 @@
 -- What a run reads, as one function of the files of a shelf and the name of a control file.
-use Rattle.std.specs.Prelude.{◌≡◌, ℕ, ◌≤◌, List, length, All, Option, Some, None, Result, Ok, Err}
+use Rattle.std.specs.Prelude.{ℕ, ◌≤◌, List, length, All, Option, Some, None, Result, Ok, Err}
 use Rattle.edt_outside.specs.Shelves.{Files}
 use Rattle.control_reader.specs.ControlValues.{ControlValues, values_of}
 use Rattle.control_reader.specs.Limits.{IsControl}

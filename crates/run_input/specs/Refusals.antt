@@ -1,5 +1,5 @@
 -- The refusals of a run: the status that each has, and which of them the files don't tell.
-use Rattle.std.specs.Prelude.{◌≡◌, ℕ, Bool, true, false, List, [], ◌∷◌, Result, Ok, Err}
+use Rattle.std.specs.Prelude.{◌≡◌, ℕ, Bool, true, false, [], ◌∷◌, Result, Ok, Err}
 use Rattle.control_reader.specs.declared.fault.ControlCause.{ControlCause}
 use Rattle.control_reader.specs.declared.fault.ControlCause.TheVariants.{LongLine, Repeated, Fields, Name, Number, Method, FileType, Limit, NotYet, NestedInclude, Missing, Memory as control_memory}
 use Rattle.phase_reader.specs.declared.fault.PhaseCause.{PhaseCause}

@@ -1,9 +1,10 @@
 //! The input of a run: its control file, its phase file and the assembly of its events.
-ghost use Rattle.std.specs.Prelude.{◌≡◌, ◌==◌, ◌≤◌, [], ◌∷◌, IsTrue, IfOk, IfErr, IfSome, OnOk, OnSome, Some, ◌⊎◌};
+ghost use Rattle.std.specs.Prelude.{◌≡◌, ◌==◌, ◌≤◌, [], ◌∷◌, IsTrue, IfOk, IfErr, IfSome, OnOk, OnSome, Some};
 ghost use Rattle.text_terms.specs.Names.{is_name};
 ghost use Rattle.edt_outside.specs.Counts.{RisesExactly};
 ghost use Rattle.run_input.specs.Inputs.{IsInput, input_of, input_value};
 ghost use Rattle.run_input.specs.Refusals.{IsAnswer, is_cause, status_of, status_of_answer};
+ghost use Rattle.run_input.specs.Statuses.{is_one_of};
 
 use crate::reading::{read_control_file, read_phase_file};
 use crate::refusals::Refusal;
@@ -44,7 +45,8 @@ pub fn read_run<S: Shelf>(alloc: Global, shelf: &mut S, name: &str) -> Result<Ru
     ensures faults { RisesExactly (status_of_answer result == 7) (S.faults shelf.old) (S.faults shelf.new) }
     ensures misses { RisesExactly (status_of_answer result == 9) (S.misses shelf.old) (S.misses shelf.new) }
     ensures lacks { S.lacks shelf.old ≤ S.lacks shelf.new }
-    ensures no_lacks { IfErr result (λ refusal. (status_of refusal ≡ 3) ⊎ (status_of refusal ≡ 4) → S.lacks shelf.new ≡ S.lacks shelf.old) }
+    ensures no_lacks { IfErr result (λ refusal.
+        IsTrue (is_one_of (status_of refusal) (3 ∷ 4 ∷ [])) → S.lacks shelf.new ≡ S.lacks shelf.old) }
     ensures calls { S.calls shelf.old ≤ S.calls shelf.new }
 {
     let control = read_control_file(alloc, shelf, name)?;

@@ -1,11 +1,10 @@
 -- How a run that locates ends, by its input.
-use Rattle.std.proofs.Common.{◌≡◌, ℕ, List, Option, Some, None, IfSome, Ok, Err, false, refl, sym, ◌∙◌, ap, subst}
+use Rattle.std.proofs.Common.{◌≡◌, ℕ, List, Option, Some, None, IfSome, Ok, Err, false, ap}
 use Rattle.edt_outside.specs.Shelves.{Files}
 use Rattle.run_input.specs.declared.input.RunInput.{RunInput}
 use Rattle.run_input.specs.declared.refusals.Refusal.{Refusal}
 use Rattle.run_input.specs.Inputs.{input_of, input_value}
 use Rattle.run_input.specs.Refusals.{IsAnswer}
-use Rattle.edt_top.specs.declared.refusals.RunRefusal.{RunRefusal}
 use Rattle.edt_top.specs.declared.refusals.RunRefusal.TheVariants.{Input}
 use Rattle.edt_top.specs.declared.writing.WriteFault.{WriteFault}
 use Rattle.edt_top.specs.Locate.Text.{locate_parts}

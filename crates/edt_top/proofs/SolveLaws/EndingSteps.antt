@@ -1,5 +1,5 @@
 -- How a run that solves ends, by what stands under the name of its problem file.
-use Rattle.std.proofs.Common.{◌≡◌, ℕ, ◌+◌, ◌-◌, ◌<◌, ◌≤◌, List, [], ◌∷◌, length, take, Option, Some, None, IfSome, IsSomeAnd, Ok, Err, true, false, if◌then◌else◌, refl, sym, ◌∙◌, ap, subst, arith}
+use Rattle.std.proofs.Common.{◌≡◌, ℕ, ◌+◌, ◌-◌, ◌<◌, ◌≤◌, List, [], ◌∷◌, length, Option, Some, None, IfSome, IsSomeAnd, Ok, Err, true, false, if◌then◌else◌, refl, sym, ◌∙◌, ap, arith}
 use Rattle.std.proofs.lemmas.Bool.Decides.{nat_tests}
 use Rattle.std.specs.Prelude.{nat_lt}
 use Rattle.text_terms.specs.Words.{file_words}
@@ -9,7 +9,7 @@ use Rattle.run_input.specs.declared.refusals.Refusal.TheVariants.{Absent}
 use Rattle.edt_top.specs.declared.refusals.RunRefusal.TheVariants.{Problem, ProblemTooLong, Input}
 use Rattle.edt_top.specs.declared.solve.problem_cursor.ProblemFault.{ProblemFault}
 use Rattle.edt_top.specs.declared.writing.WriteFault.TheVariants.{Failed}
-use Rattle.edt_top.specs.RunEndings.{RunEnding, fault_or_text, words_ending, solve_ending}
+use Rattle.edt_top.specs.RunEndings.{fault_or_text, words_ending, solve_ending}
 use Rattle.edt_top.specs.Runs.{IsWritten, joined}
 use Rattle.edt_top.specs.Solve.ProblemFile.{Words, IsProblemFile, fault_at}
 use Rattle.edt_top.specs.Solve.Text.{solve_text}

@@ -1,5 +1,5 @@
 -- What form a word of a problem file has to have, section by section.
-use Rattle.std.proofs.Common.{◌↔◌, ◌/◌, ◌≡◌, ℕ, ◌+◌, ◌-◌, ◌*◌, ◌%◌, ◌<◌, ◌≤◌, ◌∙◌, arith, ap}
+use Rattle.std.proofs.Common.{◌↔◌, ◌≡◌, ℕ, ◌+◌, ◌-◌, ◌*◌, ◌%◌, ◌<◌, ◌≤◌, ◌∙◌, arith, ap}
 use Rattle.std.proofs.lemmas.Bool.Decides.{nat_tests}
 use Rattle.std.proofs.Math.Nat.{le-div_iff_mul-le}
 use Rattle.edt_top.specs.Solve.ProblemFile.{most_within, Words, form_at, pick_form, signed_at, picks_in, first_time, words_wanted, Whole, Nothing, Observed}

@@ -1,5 +1,5 @@
 -- How the writing of parts ends.
-use Rattle.std.specs.Prelude.{◌≡◌, ℕ, ◌<◌, Bool, true, false, List, length, take, Result, Ok, Err}
+use Rattle.std.specs.Prelude.{ℕ, ◌<◌, Bool, true, false, List, length, take, Result, Ok, Err}
 use Rattle.edt_top.specs.declared.refusals.RunRefusal.{RunRefusal}
 use Rattle.edt_top.specs.declared.refusals.RunRefusal.TheVariants.{Input, Write}
 use Rattle.edt_top.specs.declared.writing.WriteFault.{WriteFault}

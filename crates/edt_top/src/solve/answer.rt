@@ -34,8 +34,10 @@ pub fn solve_text(alloc: Global, bytes: &[u8]) -> Result<String, ReadRefusal>
 // The first best node of a field for a problem, with the Gaussian kernel.
 fn best_of(alloc: Global, field: &Field, problem: &Problem) -> Result<Best, AllocError>
     requires valid { IsValidProblem field.now problem.now }
-    ensures first { IfOk result (λ best. IsFirstBest (node_count field.now.grid) (score_of Gauss (time_at field.now) problem.now.picks.items) best.node) }
-    ensures score { IfOk result (λ best. best.score ≡ score_of Gauss (time_at field.now) problem.now.picks.items best.node) }
+    ensures first { IfOk result (λ best. IsFirstBest (node_count field.now.grid)
+        (score_of Gauss (time_at field.now) problem.now.picks.items) best.node) }
+    ensures score { IfOk result (λ best. best.score
+        ≡ score_of Gauss (time_at field.now) problem.now.picks.items best.node) }
 {
     let falloff = Falloff::new(Shape::Gauss, |misfit, scale| gauss(misfit, scale));
     best_node(alloc, field, problem, &falloff)

@@ -1,12 +1,10 @@
-use Rattle.std.proofs.Common.{◌≡◌, ℕ, List, Ok, Err, false, true, refl, sym, ◌∙◌, ap, subst}
+use Rattle.std.proofs.Common.{◌≡◌, ℕ, List, Ok, false, true, refl, sym, ◌∙◌}
 use Rattle.std.proofs.lemmas.Result.{err_from_is_err_and}
 use Rattle.edt_outside.specs.Sinks.{Appends}
 use Rattle.run_input.specs.Inputs.{input_of, input_value}
 use Rattle.edt_top.specs.Locate.Text.{locate_parts}
 use Rattle.edt_top.specs.RunEndings.{locate_ending}
-use Rattle.edt_top.specs.RunRefusals.{run_status}
-use Rattle.edt_top.specs.Runs.{IsLocateText, IsWritten}
-use Rattle.edt_top.specs.Inside.Writing.{refusal_of_write}
+use Rattle.edt_top.specs.Runs.{IsLocateText}
 use Rattle.edt_top.proofs.LocateLaws.InputSteps.{input_refused, input_written, input_cut}
 use Rattle.edt_top.proofs.StatusLaws.{told_all, refused_written, all_written, fault_written, write_untold}
 use Rattle.edt_top.proofs.locate.locate.Goals as goal

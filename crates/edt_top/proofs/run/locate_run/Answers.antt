@@ -1,4 +1,4 @@
-use Rattle.std.proofs.Common.{◌≡◌, List, ℕ, map, sym, ◌∙◌}
+use Rattle.std.proofs.Common.{◌≡◌, map, sym}
 use Rattle.std.specs.String.{string_bytes}
 use Rattle.edt_outside.specs.Sinks.{Appends}
 use Rattle.run_input.specs.Told.{Told}

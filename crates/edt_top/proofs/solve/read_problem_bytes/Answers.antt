@@ -1,5 +1,4 @@
-use Rattle.std.proofs.Common.{◌≡◌, ◌<◌, ℕ, List, None, Err, length, IfSome, IsSomeAnd, false, refl, sym, ◌∙◌, ap, subst}
-use Rattle.edt_outside.specs.Shelves.{Files}
+use Rattle.std.proofs.Common.{◌≡◌, Err, false}
 use Rattle.run_input.specs.declared.refusals.Refusal.TheVariants.{Absent}
 use Rattle.edt_top.specs.declared.refusals.RunRefusal.TheVariants.{ProblemTooLong, Input}
 use Rattle.edt_top.specs.RunEndings.{solve_ending}

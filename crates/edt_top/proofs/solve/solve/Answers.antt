@@ -1,4 +1,4 @@
-use Rattle.std.proofs.Common.{◌≡◌, ℕ, List, [], ◌∷◌, Ok, Err, false, refl, sym, ◌∙◌, ap, subst}
+use Rattle.std.proofs.Common.{◌≡◌, Err, false, ◌∙◌, ap, subst}
 use Rattle.text_terms.specs.Words.{file_words}
 use Rattle.edt_outside.specs.Sinks.{Appends}
 use Rattle.edt_top.specs.declared.refusals.RunRefusal.TheVariants.{Problem}

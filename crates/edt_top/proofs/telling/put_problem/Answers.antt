@@ -1,4 +1,4 @@
-use Rattle.std.proofs.Common.{◌≡◌, List, ℕ, subst, rules}
+use Rattle.std.proofs.Common.{subst, rules}
 use Rattle.run_input.specs.Told.{Told}
 use Rattle.edt_top.specs.RunRefusals.{problem_line}
 use Rattle.edt_top.proofs.telling.put_problem.Goals as goal

@@ -1,13 +1,12 @@
-use Rattle.std.proofs.Common.{◌≡◌, ◌≤◌, ℕ, List, [], ◌∷◌, length, map, Vec, Some, None, IfSome, false, refl, sym, ◌∙◌, ap, subst}
+use Rattle.std.proofs.Common.{◌≡◌, ℕ, List, map, Vec, Some, IfSome, false, subst}
 use Rattle.std.specs.Global.{Global}
 use Rattle.std.proofs.lemmas.Result.{err_from_is_err_and}
 use Rattle.control_reader.specs.ControlFile.{IsReading, IsControlFault}
 use Rattle.control_reader.specs.Includes.{AreIncludes, IsIncludeFault}
-use Rattle.run_input.specs.declared.refusals.Refusal.TheVariants.{ControlTooLong}
-use Rattle.run_input.specs.FirstRefusals.{file_refusal, first_refusal, included_refusals}
+use Rattle.run_input.specs.FirstRefusals.{first_refusal, included_refusals}
 use Rattle.run_input.specs.Refusals.{is_untold}
 use Rattle.run_input.proofs.IncludedSteps.{AreRead}
-use Rattle.run_input.proofs.ControlSteps.{IsMain, main_stops, include_refused, included_stops, control_refused, control_read}
+use Rattle.run_input.proofs.ControlSteps.{main_stops, include_refused, included_stops, control_refused, control_read}
 use Rattle.run_input.proofs.reading.read_control_file.Goals as goal
 
 pub returns-in_err-main-clause-told : goal.returns-in_err-main-clause-told

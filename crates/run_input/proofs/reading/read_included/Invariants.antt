@@ -1,4 +1,4 @@
-use Rattle.std.proofs.Common.{◌≡◌, ◌≤◌, ℕ, List, take, map, IfSome, All, vec_len, Vec, None}
+use Rattle.std.proofs.Common.{◌≡◌, ◌≤◌, take, map, IfSome, All, vec_len, None}
 use Rattle.run_input.specs.FilesUnder.{bytes_under}
 use Rattle.run_input.specs.FirstRefusals.{first_refusal, included_refusals}
 use Rattle.run_input.proofs.reading.read_included.Given as goal

@@ -1,4 +1,4 @@
-use Rattle.std.proofs.Common.{◌≡◌, ◌≤◌, ℕ, List, [], ◌∷◌, length, Some, IfSome, refl, sym, ◌∙◌, ap, subst}
+use Rattle.std.proofs.Common.{◌≡◌, subst}
 use Rattle.std.proofs.lemmas.Result.{err_from_is_err_and}
 use Rattle.phase_reader.specs.PhaseFile.{IsReading, IsPhaseFault}
 use Rattle.run_input.proofs.PhaseSteps.{phases_stop, phases_read, phases_refused}

@@ -1,9 +1,9 @@
-use Rattle.std.proofs.Common.{◌≡◌, ℕ, List, ◌+◌, ◌≤◌, ◌<◌, length, get_or, map, refl, sym, ◌∙◌, ap, subst, arith, rules}
+use Rattle.std.proofs.Common.{◌≡◌, ℕ, List, ◌+◌, ◌<◌, length, get_or, map, sym, ◌∙◌, subst, arith, rules}
 use Rattle.std.proofs.lemmas.List.{length-map}
 use Rattle.std.proofs.lemmas.Result.{err_from_is_err_and}
 use Rattle.kernel_table.specs.Falloff.{shape_of}
 use Rattle.event_assembly.specs.declared.assembly.Prepared.{Prepared}
-use Rattle.event_assembly.specs.AssemblyValues.{EventValues, event_value}
+use Rattle.event_assembly.specs.AssemblyValues.{event_value}
 use Rattle.edt_top.specs.Locate.Text.{event_block}
 use Rattle.run_input.proofs.NumberedLaws.{item_is}
 use Rattle.edt_top.proofs.LocateLaws.WritingSteps.{writes_stop, writes_short, writes_next, block_is}
