@@ -183,7 +183,8 @@ fn read_row(
     ensures times { IfOk result (λ times. times.items ≡ row_in cursor.old.words row) }
     ensures limit { IfOk result (λ times. All (λ time. time ≤ 2000000000) times.items) }
     ensures sound { OnOk result (IsSound cursor.new) }
-    ensures moved { OnOk result (cursor.new ≡ record cursor.old { place = first_time cursor.old.words + (row + 1) * nodes }) }
+    ensures moved { OnOk result (cursor.new
+        ≡ record cursor.old { place = first_time cursor.old.words + (row + 1) * nodes }) }
     ensures fault { IfErr result (NamesFault cursor.old.words) }
 {
     let mut times = Vec::with_capacity(alloc, nodes as usize)?;
