@@ -7,7 +7,7 @@ ghost use Rattle.edt_top.specs.RunRefusals.{cause_name, is_named_run, problem_li
 use crate::refusals::RunRefusal;
 use crate::solve::problem_cursor::ProblemFault;
 use crate::solve::problem_word::ProblemCause;
-use edt_outside::{PutFailed, Sink};
+use edt_outside::Sink;
 use itoa::Buffer;
 use run_input::{put_pieces, tell_refusal};
 
@@ -15,7 +15,7 @@ use run_input::{put_pieces, tell_refusal};
 pub fn tell_words<E: Sink>(err: &mut E)
     ensures told { Told E.taken E.faults err.old err.new (words_line program) }
 {
-    let _ = put_pieces(err, &[b"edtloc: words\n"]);
+    put_pieces(err, &[b"edtloc: words\n"]);
 }
 
 // Tells of a refusal.
@@ -23,20 +23,17 @@ pub fn tell_run_refusal<E: Sink>(refusal: &RunRefusal, err: &mut E)
     ensures told { Told E.taken E.faults err.old err.new (run_line refusal.now) }
     ensures named { IsTrue (is_named_run refusal.now) }
 {
-    let _ = match refusal {
+    match refusal {
         RunRefusal::Problem(fault) => put_problem(fault, err),
         RunRefusal::ProblemTooLong => put_pieces(err, &[b"edtloc: problem TooLong 0\n"]),
-        RunRefusal::Input(refusal) => {
-            tell_refusal(b"edtloc:", refusal, err);
-            Ok(())
-        }
+        RunRefusal::Input(refusal) => tell_refusal(b"edtloc:", refusal, err),
         RunRefusal::Write => put_pieces(err, &[b"edtloc: write\n"]),
-    };
+    }
 }
 
 // Tells of the first faulty word of a problem file.
 #[tactic(auto, unfolding(crate::specs::RunRefusals::problem_line))]
-fn put_problem<E: Sink>(fault: &ProblemFault, err: &mut E) -> Result<(), PutFailed>
+fn put_problem<E: Sink>(fault: &ProblemFault, err: &mut E)
     ensures told { Told E.taken E.faults err.old err.new (problem_line fault.now) }
 {
     let mut buffer = Buffer::new();

@@ -12,7 +12,7 @@ use crate::cause_names::{
 };
 use crate::refusals::Refusal;
 use control_reader::ControlFault;
-use edt_outside::{PutFailed, Sink, put_all};
+use edt_outside::{Sink, put_all};
 use edt_text::Name;
 use itoa::Buffer;
 use phase_reader::PhaseFault;
@@ -23,7 +23,7 @@ pub fn tell_refusal<E: Sink>(program: &[u8], refusal: &Refusal, err: &mut E)
     ensures told { Told E.taken E.faults err.old err.new (refusal_line program.now refusal.now) }
     ensures named { IsTrue (is_named refusal.now) }
 {
-    let _ = match refusal {
+    match refusal {
         Refusal::Control(fault) => put_control(program, fault, err),
         Refusal::ControlTooLong(file) => put_control_too_long(program, *file, err),
         Refusal::Phases(fault) => put_phases(program, fault, err),
@@ -40,12 +40,12 @@ pub fn tell_refusal<E: Sink>(program: &[u8], refusal: &Refusal, err: &mut E)
         Refusal::Memory => put_pieces(err, &[program, b" memory\n"]),
         Refusal::Read(name) => put_read(program, name, err),
         Refusal::Absent(name) => put_absent(program, name, err),
-    };
+    }
 }
 
 // Tells of a faulty line of a control file.
 #[tactic(auto, unfolding(crate::specs::Lines::control_line))]
-fn put_control<E: Sink>(program: &[u8], fault: &ControlFault, err: &mut E) -> Result<(), PutFailed>
+fn put_control<E: Sink>(program: &[u8], fault: &ControlFault, err: &mut E)
     ensures told { Told E.taken E.faults err.old err.new (control_line program.now fault.now) }
 {
     let mut file = Buffer::new();
@@ -67,7 +67,7 @@ fn put_control<E: Sink>(program: &[u8], fault: &ControlFault, err: &mut E) -> Re
 
 // Tells of a control file past its limit.
 #[tactic(auto, unfolding(crate::specs::Lines::control_too_long_line))]
-fn put_control_too_long<E: Sink>(program: &[u8], file: u32, err: &mut E) -> Result<(), PutFailed>
+fn put_control_too_long<E: Sink>(program: &[u8], file: u32, err: &mut E)
     ensures told { Told E.taken E.faults err.old err.new (control_too_long_line program.now file) }
 {
     let mut buffer = Buffer::new();
@@ -84,7 +84,7 @@ fn put_control_too_long<E: Sink>(program: &[u8], file: u32, err: &mut E) -> Resu
 
 // Tells of a faulty line of a phase file.
 #[tactic(auto, unfolding(crate::specs::Lines::phases_line))]
-fn put_phases<E: Sink>(program: &[u8], fault: &PhaseFault, err: &mut E) -> Result<(), PutFailed>
+fn put_phases<E: Sink>(program: &[u8], fault: &PhaseFault, err: &mut E)
     ensures told { Told E.taken E.faults err.old err.new (phases_line program.now fault.now) }
 {
     let mut line = Buffer::new();
@@ -103,12 +103,7 @@ fn put_phases<E: Sink>(program: &[u8], fault: &PhaseFault, err: &mut E) -> Resul
 
 // Tells of a header that is refused.
 #[tactic(auto, unfolding(crate::specs::Lines::header_line))]
-fn put_header<E: Sink>(
-    program: &[u8],
-    name: &Name,
-    cause: &[u8],
-    err: &mut E,
-) -> Result<(), PutFailed>
+fn put_header<E: Sink>(program: &[u8], name: &Name, cause: &[u8], err: &mut E)
     ensures told { Told E.taken E.faults err.old err.new (header_line program.now name.now cause.now) }
     ensures named { IsTrue (is_name 512 name.now) }
 {
@@ -126,12 +121,7 @@ fn put_header<E: Sink>(
 }
 
 // Tells of a body that is refused.
-fn put_body<E: Sink>(
-    program: &[u8],
-    name: &Name,
-    cause: GridFault,
-    err: &mut E,
-) -> Result<(), PutFailed>
+fn put_body<E: Sink>(program: &[u8], name: &Name, cause: GridFault, err: &mut E)
     ensures told { Told E.taken E.faults err.old err.new (body_line program.now name.now (body_cause_name cause)) }
     ensures named { IsTrue (is_name 512 name.now) }
 {
@@ -147,12 +137,7 @@ fn put_body<E: Sink>(
 
 // Tells of a body with a time past the limit.
 #[tactic(auto, unfolding(crate::specs::Lines::body_line))]
-fn put_time_limit<E: Sink>(
-    program: &[u8],
-    name: &Name,
-    node: u32,
-    err: &mut E,
-) -> Result<(), PutFailed>
+fn put_time_limit<E: Sink>(program: &[u8], name: &Name, node: u32, err: &mut E)
     ensures told { Told E.taken E.faults err.old err.new
         (body_line program.now name.now (body_cause_name (GridFault.TimeLimit node))) }
     ensures named { IsTrue (is_name 512 name.now) }
@@ -174,12 +159,7 @@ fn put_time_limit<E: Sink>(
 
 // Tells of a body that is refused for this cause.
 #[tactic(auto, unfolding(crate::specs::Lines::body_line))]
-fn put_body_cause<E: Sink>(
-    program: &[u8],
-    name: &Name,
-    cause: &[u8],
-    err: &mut E,
-) -> Result<(), PutFailed>
+fn put_body_cause<E: Sink>(program: &[u8], name: &Name, cause: &[u8], err: &mut E)
     ensures told { Told E.taken E.faults err.old err.new (body_line program.now name.now cause.now) }
     ensures named { IsTrue (is_name 512 name.now) }
 {
@@ -197,7 +177,7 @@ fn put_body_cause<E: Sink>(
 }
 
 // Tells of a file that could not be read.
-fn put_read<E: Sink>(program: &[u8], name: &Name, err: &mut E) -> Result<(), PutFailed>
+fn put_read<E: Sink>(program: &[u8], name: &Name, err: &mut E)
     ensures told { Told E.taken E.faults err.old err.new (read_line program.now name.now) }
     ensures named { IsTrue (is_name 512 name.now) }
 {
@@ -205,7 +185,7 @@ fn put_read<E: Sink>(program: &[u8], name: &Name, err: &mut E) -> Result<(), Put
 }
 
 // Tells of a file that isn't there.
-fn put_absent<E: Sink>(program: &[u8], name: &Name, err: &mut E) -> Result<(), PutFailed>
+fn put_absent<E: Sink>(program: &[u8], name: &Name, err: &mut E)
     ensures told { Told E.taken E.faults err.old err.new (absent_line program.now name.now) }
     ensures named { IsTrue (is_name 512 name.now) }
 {
@@ -216,11 +196,13 @@ fn put_absent<E: Sink>(program: &[u8], name: &Name, err: &mut E) -> Result<(), P
 }
 
 /// Writes the pieces of a line one after another, up to the first that is refused.
-pub fn put_pieces<E: Sink>(err: &mut E, pieces: &[&[u8]]) -> Result<(), PutFailed>
+pub fn put_pieces<E: Sink>(err: &mut E, pieces: &[&[u8]])
     ensures told { Told E.taken E.faults err.old err.new (flat_map (λ piece. piece.now) pieces.now) }
 {
     for piece in pieces {
-        put_all(err, piece)?;
+        match put_all(err, piece) {
+            Ok(()) => {}
+            Err(_) => return,
+        }
     }
-    Ok(())
 }

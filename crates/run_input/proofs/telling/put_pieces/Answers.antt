@@ -30,10 +30,10 @@ cut_short taken faults before mid after xs piece rest line k first then is same 
       whole = λ none. absurd (none (subst (λ f. Rose f (faults after)) same rose.1));
     }
 
-pub returns-in_err-put_all : goal.returns-in_err-put_all
-returns-in_err-put_all g c =
+pub returns-in-Err : goal.returns-in-Err
+returns-in-Err g c =
     let i : ℕ = c.loop-piece.piece-index in
-    record { told = cut_short g.E.Sink.taken g.E.Sink.faults _ _ _ _ _ _ _ _ c.loop-piece.invariant.appended c.in_err-put_all.ensures.front (parts c.args.pieces.now i _ c.loop-piece-test.true) c.loop-piece.invariant.faults c.in_err-put_all.ensures.faults }
+    record { told = cut_short g.E.Sink.taken g.E.Sink.faults _ _ _ _ _ _ _ _ c.loop-piece.invariant.appended c.in-Err.ensures.front (parts c.args.pieces.now i _ c.loop-piece-test.true) c.loop-piece.invariant.faults c.in-Err.ensures.faults }
 
 -- what is told where all pieces are taken
 all_taken : {E : Type 0} (taken : E → Option (List ℕ)) (faults : E → ℕ) (before after : E) (line : List ℕ) → Appends (taken before) (taken after) line → Told taken faults before after line
