@@ -1,0 +1,14 @@
+pub mod PartLaws
+pub mod WordLaws
+pub mod WordSteps
+pub mod LineLaws
+pub mod FirstFaultLaws
+pub mod Refusals
+pub mod BlockSteps
+pub mod SpacedLaws
+pub mod CountedLaws
+pub mod BlockLaws
+pub mod KeepingLaws
+pub mod FaultPlaces
+pub mod Decoding
+pub mod TextLaws
