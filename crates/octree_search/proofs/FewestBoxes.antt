@@ -18,6 +18,7 @@ use Rattle.octree_search.specs.Cover.{stops, cover, below, cover_of, boxes_met}
 use Rattle.octree_search.specs.Fewest.{IsPartOfOne, IsShortest}
 use Rattle.octree_search.proofs.Choices.{by_test}
 use Rattle.octree_search.proofs.Covers.{by_cover, cover_open, cover_stop, below_open, below_stop, splittable}
+use Rattle.octree_search.proofs.OctreeCovers.{octree_cover, covers_stop}
 
 -- a part of a part
 pub part_of_part : (a b c : NodeBox) → IsPartOf a b → IsPartOf b c → IsPartOf a c
@@ -166,6 +167,8 @@ roots_nonempty g roots are = all-weaker (IsIn g) IsNonempty (in_nonempty g) root
 pub shortest_cover : (g : GridSize) (roots : List NodeBox) (bound : NodeBox → ℕ) (t : ℕ) → AreRoots g roots
     → IsShortest roots bound t (cover_of bound t roots)
 shortest_cover g roots bound t are = record {
+  cover = octree_cover bound t roots (roots_nonempty g roots are);
+  closed = covers_stop bound t roots (roots_nonempty g roots are);
   fewest = λ other kept all. fewest bound t roots other kept (roots_nonempty g roots are) all;
   within = λ other kept all. within bound t roots other kept (roots_nonempty g roots are) all;
 }

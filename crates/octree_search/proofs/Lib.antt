@@ -1,6 +1,7 @@
 pub mod Choices
 pub mod Thresholds
 pub mod Covers
+pub mod OctreeCovers
 pub mod FewestBoxes
 pub mod Scores
 pub mod Arenas

@@ -13,17 +13,23 @@ use Rattle.octree_search.specs.Cover.{stops}
 abbrev pub IsPartOfOne : List NodeBox → NodeBox → Type 0
 IsPartOfOne boxes part = (whole : NodeBox) × Contains boxes whole × IsPartOf whole part
 
--- the boxes are at most as many as those of any octree cover whose boxes are single or have a bound below the threshold, and each box of
--- such a cover lies in one of them
+-- the boxes are an octree cover whose boxes are single or have a bound below the threshold; they are at most as many as those of any such
+-- cover, and each box of such a cover lies in one of them
 pub record IsShortest (roots : List NodeBox) (bound : NodeBox → ℕ) (t : ℕ) (boxes : List NodeBox) : Type 0 where
+  pub cover : IsOctreeCover roots boxes
+  pub closed : AllByRecursion (λ a. stops bound t a ≡ true) boxes
   pub fewest : (other : List NodeBox) → IsOctreeCover roots other → AllByRecursion (λ a. stops bound t a ≡ true) other
       → length boxes ≤ length other
   pub within : (other : List NodeBox) → IsOctreeCover roots other → AllByRecursion (λ a. stops bound t a ≡ true) other
       → AllByRecursion (IsPartOfOne boxes) other
 
+-- the boxes of a cover, without their bounds
+abbrev pub areas_of : List BoxBound → List NodeBox
+areas_of boxes = map (λ (b : BoxBound). b.area) boxes
+
 -- the cover of what was found, where there is one, is so
 abbrev pub IsCoverShortest : List NodeBox → (NodeBox → ℕ) → ℕ → Found → Type 0
-IsCoverShortest roots bound t (Located event) = IsShortest roots bound t (map (λ (b : BoxBound). b.area) event.cover.items)
-IsCoverShortest roots bound t (NoFit boxes met) = IsShortest roots bound t (map (λ (b : BoxBound). b.area) boxes.items)
+IsCoverShortest roots bound t (Located event) = IsShortest roots bound t (areas_of event.cover.items)
+IsCoverShortest roots bound t (NoFit boxes met) = IsShortest roots bound t (areas_of boxes.items)
 IsCoverShortest roots bound t Budget = Unit {0}
 IsCoverShortest roots bound t NearLimit = Unit {0}

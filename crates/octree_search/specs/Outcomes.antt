@@ -29,7 +29,13 @@ pub data Outcome : Type 0 where
 -- the value of what was found
 abbrev pub found_value : Found → Outcome
 found_value (Located event) =
-    IsLocated (record { hyp = event.hyp; score = event.score; near = event.near.items; boxes = event.cover.items; met = event.met })
+    IsLocated (record {
+      hyp = event.hyp;
+      score = event.score;
+      near = event.near.items;
+      boxes = event.cover.items;
+      met = event.met;
+    })
 found_value (NoFit boxes met) = FitsNowhere boxes.items met
 found_value Budget = PassesBudget
 found_value NearLimit = PassesNearLimit

@@ -46,7 +46,8 @@ fn push_cover(met: &[Met], place: usize, boxes: &mut Vec<BoxBound>) -> Result<()
     requires tree { IsTree met.now }
     requires place { place < length met.now }
     ensures { (bound : NodeBox → ℕ) (t : ℕ) → All (IsSettled bound t) met.now
-        → OnOk result (boxes.new.items ≡ boxes.old.items ++ map (bounded bound) (cover bound t (slice_index_or met.now place no_box).area)) }
+        → OnOk result (boxes.new.items
+        ≡ boxes.old.items ++ map (bounded bound) (cover bound t (slice_index_or met.now place no_box).area)) }
 {
     let here = met[place];
     let Some(first_child) = here.first_child else {

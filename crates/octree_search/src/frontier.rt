@@ -55,10 +55,12 @@ impl Frontier {
         ensures same_bounds { J.bound_of judge.new ≡ J.bound_of judge.old }
         ensures asked { J.count judge.new ≡ J.count judge.old + 1 }
         // what is known
-        ensures met { OnOk result (self.new.met.items ≡ self.old.met.items ++ fresh (J.bound_of judge.old) area.now ∷ []) }
+        ensures met { OnOk result
+            (self.new.met.items ≡ self.old.met.items ++ fresh (J.bound_of judge.old) area.now ∷ []) }
         ensures best { OnOk result (self.new.best ≡ best_with (J.bound_of judge.old) self.old.best area.now) }
         ensures queue { OnOk result (IsPermutation
-            (wait_of margin (J.bound_of judge.old) self.old.best (length self.old.met.items) area.now ++ self.old.queue) self.new.queue) }
+            (wait_of margin (J.bound_of judge.old) self.old.best (length self.old.met.items) area.now ++ self.old.queue)
+            self.new.queue) }
     {
         let bound = judge.bound(area);
         let place = self.met.len() as u32;
@@ -80,6 +82,7 @@ impl Frontier {
             area: *area,
         })
     }
+
     /// Meets boxes one after another.
     pub fn meet_all<J: Judge>(
         &mut self,
@@ -100,10 +103,12 @@ impl Frontier {
         ensures most { J.count judge.new ≤ J.count judge.old + length areas.now }
         ensures asked { OnOk result (J.count judge.new ≡ J.count judge.old + length areas.now) }
         // what is known
-        ensures met { OnOk result (self.new.met.items ≡ self.old.met.items ++ map (fresh (J.bound_of judge.old)) areas.now) }
+        ensures met { OnOk result
+            (self.new.met.items ≡ self.old.met.items ++ map (fresh (J.bound_of judge.old)) areas.now) }
         ensures best { OnOk result (self.new.best ≡ best_after (J.bound_of judge.old) self.old.best areas.now) }
         ensures queue { OnOk result (IsPermutation
-            (waits margin (J.bound_of judge.old) self.old.best (length self.old.met.items) areas.now ++ self.old.queue) self.new.queue) }
+            (waits margin (J.bound_of judge.old) self.old.best (length self.old.met.items) areas.now ++ self.old.queue)
+            self.new.queue) }
     {
         for area in areas {
             self.meet(judge, margin, area)?;
@@ -133,11 +138,14 @@ impl Frontier {
         ensures most { J.count judge.new ≤ J.count judge.old + length (children_of top.now.area) }
         ensures asked { OnOk result (J.count judge.new ≡ J.count judge.old + length (children_of top.now.area)) }
         // what is known
-        ensures met { OnOk result (IsOpened (self.old.met.items ++ map (fresh (J.bound_of judge.old)) (children_of top.now.area))
+        ensures met { OnOk result (IsOpened
+            (self.old.met.items ++ map (fresh (J.bound_of judge.old)) (children_of top.now.area))
             top.now.place (length self.old.met.items) self.new.met.items) }
-        ensures best { OnOk result (self.new.best ≡ best_after (J.bound_of judge.old) self.old.best (children_of top.now.area)) }
+        ensures best { OnOk result
+            (self.new.best ≡ best_after (J.bound_of judge.old) self.old.best (children_of top.now.area)) }
         ensures queue { OnOk result (IsPermutation
-            (waits margin (J.bound_of judge.old) self.old.best (length self.old.met.items) (children_of top.now.area) ++ self.old.queue)
+            (waits margin (J.bound_of judge.old) self.old.best (length self.old.met.items) (children_of top.now.area)
+            ++ self.old.queue)
             self.new.queue) }
     {
         let first_child = self.met.len() as u32;

@@ -11,6 +11,6 @@ ghost use Rattle.octree_search.specs.Fewest.{IsShortest};
 pub fn cover_law()
     ensures shortest { (g : GridSize) (roots : List NodeBox) (bound : NodeBox → ℕ) (t : ℕ) → AreRoots g roots
         → IsShortest roots bound t (cover_of bound t roots) }
-    ensures met { (g : GridSize) (roots : List NodeBox) (bound : NodeBox → ℕ) (t : ℕ) → AreRoots g roots → 1 ≤ node_count g
-        → boxes_met bound t roots < 2 * node_count g }
+    ensures met { (g : GridSize) (roots : List NodeBox) (bound : NodeBox → ℕ) (t : ℕ) → AreRoots g roots
+        → 1 ≤ node_count g → boxes_met bound t roots < 2 * node_count g }
 {}

@@ -48,11 +48,13 @@ pub fn search<J: Judge>(
     ensures same_roots { J.roots judge.new ≡ J.roots judge.old }
     ensures same_bounds { J.bound_of judge.new ≡ J.bound_of judge.old }
     // what is found
-    ensures value { IfOk result (λ found. found_value found ≡ outcome_of grid.now roots.now (J.bound_of judge.old) margin budget) }
+    ensures value { IfOk result (λ found.
+        found_value found ≡ outcome_of grid.now roots.now (J.bound_of judge.old) margin budget) }
     ensures shortest { IfOk result
         (IsCoverShortest roots.now (J.bound_of judge.old) (event_threshold grid.now (J.bound_of judge.old) margin)) }
     ensures asked { IfOk result
-        (Asks (J.count judge.old) (J.count judge.new) budget (event_met grid.now roots.now (J.bound_of judge.old) margin)) }
+        (Asks (J.count judge.old) (J.count judge.new) budget
+        (event_met grid.now roots.now (J.bound_of judge.old) margin)) }
 {
     let Some(explored) = explore(alloc, judge, roots, margin, budget)? else {
         return Ok(Found::Budget);
@@ -79,8 +81,8 @@ pub fn found_from(
     requires margin { margin ≤ 999 }
     requires few { length met.now < 2 ^ 32 }
     requires ended { IsEnded grid.now margin met.now roots best }
-    ensures { (all : List NodeBox) (bound : NodeBox → ℕ) → length all ≡ roots → AreRoots grid.now all → BoundsFall grid.now all bound
-        → IsExplored grid.now all bound margin met.now best
+    ensures { (all : List NodeBox) (bound : NodeBox → ℕ) → length all ≡ roots → AreRoots grid.now all
+        → BoundsFall grid.now all bound → IsExplored grid.now all bound margin met.now best
         → IfOk result (λ found. found_value found ≡ found_of grid.now all bound margin) }
 {
     let cover = collect_cover(alloc, met, roots)?;

@@ -46,10 +46,13 @@ IsTree met = All (IsBranch (areas_met met)) met
 
 -- a box was opened exactly where the rule opens it, and where it wasn't its bound is kept
 abbrev pub IsSettled : (NodeBox → ℕ) → ℕ → Met → Type 0
-IsSettled bound t m = MatchOption m.first_child ((m.bound ≡ bound m.area) × (stops bound t m.area ≡ true)) (λ _. stops bound t m.area ≡ false)
+IsSettled bound t m = MatchOption m.first_child
+    ((m.bound ≡ bound m.area) × (stops bound t m.area ≡ true))
+    (λ _. stops bound t m.area ≡ false)
 
 -- a search has ended: the best score is known, every box that was met is opened exactly where the rule opens it, and the roots come first
-pub record IsExplored (g : GridSize) (roots : List NodeBox) (bound : NodeBox → ℕ) (margin : ℕ) (met : List Met) (best : ℕ) : Type 0 where
+pub record IsExplored (g : GridSize) (roots : List NodeBox) (bound : NodeBox → ℕ) (margin : ℕ) (met : List Met) (best : ℕ)
+    : Type 0 where
   pub best_is : best ≡ best_of g bound
   pub tree : IsTree met
   pub settled : All (IsSettled bound (event_threshold g bound margin)) met
