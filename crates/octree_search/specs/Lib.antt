@@ -2,4 +2,5 @@ pub mod Cover
 pub mod Near
 pub mod Outcomes
 pub mod Fewest
+pub mod Meanings
 pub mod Inside
