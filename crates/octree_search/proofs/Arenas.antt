@@ -6,7 +6,7 @@ use Rattle.std.proofs.lemmas.List.{length-set, length-take, length-drop, get_or-
 use Rattle.node_boxes.specs.declared.node_box.NodeBox.{NodeBox}
 use Rattle.node_boxes.specs.Children.{children_of}
 use Rattle.octree_search.specs.declared.arena.Met.{Met}
-use Rattle.octree_search.specs.Inside.Arena.{areas_met, fresh, IsLinked, IsOpened}
+use Rattle.octree_search.specs.Arena.{areas_met, fresh, IsLinked, IsOpened}
 
 -- the box of zeros that stands for a place past the end
 abbrev pub no_met : Met

@@ -154,6 +154,19 @@ module _ (bound : NodeBox → ℕ) (t : ℕ) where
       sum_twice (c ∷ boxes) (here, all) =
           omega (arith, here, sum_twice boxes all, sum_by-cons (λ c. 1 + below bound t c) c boxes, sum_by-cons node_count_of c boxes)
 
+  -- a cover has at most as many boxes as there are nodes
+  pub covers_nodes : (boxes : List NodeBox) → AllByRecursion (λ a. length (cover bound t a) ≤ node_count_of a) boxes
+      → length (flat_map (cover bound t) boxes) ≤ sum_by node_count_of boxes
+  covers_nodes [] all = omega arith
+  covers_nodes (a ∷ boxes) (here, all) =
+      omega (arith, here, covers_nodes boxes all, length-append {A = NodeBox} (cover bound t a) (flat_map (cover bound t) boxes), sum_by-cons node_count_of a boxes)
+
+  pub cover_nodes : (a : NodeBox) → IsNonempty a → length (cover bound t a) ≤ node_count_of a
+  cover_nodes = by_cover bound t (λ a. length (cover bound t a) ≤ node_count_of a)
+      (λ a some stop. rw (cover_stop bound t a stop) (omega (arith, node_count-some a some)))
+      (λ a some open' all. rw (cover_open bound t a some open')
+      (omega (arith, covers_nodes (children_of a) all, children_nodes a some)))
+
   pub met_twice : (boxes : List NodeBox) → AllByRecursion IsNonempty boxes → boxes_met bound t boxes + length boxes ≤ 2 * sum_by node_count_of boxes
   met_twice [] some = omega arith
   met_twice (a ∷ boxes) (here, some) =
@@ -179,3 +192,14 @@ pub fewer_than_twice : (g : GridSize) (roots : List NodeBox) (bound : NodeBox �
 fewer_than_twice g [] bound t are some = let none : 0 ≡ node_count g = are.nodes in absurd (omega (arith, none))
 fewer_than_twice g (a ∷ roots) bound t are some =
     omega (arith, met_twice bound t (a ∷ roots) (roots_nonempty g (a ∷ roots) are), are.nodes)
+
+-- and has at most as many boxes as there are nodes
+pub at_most_nodes : (g : GridSize) (roots : List NodeBox) (bound : NodeBox → ℕ) (t : ℕ) → AreRoots g roots
+    → length (cover_of bound t roots) ≤ node_count g
+at_most_nodes g roots bound t are =
+    omega (
+      arith,
+      are.nodes,
+      covers_nodes bound t roots
+          (all-weaker IsNonempty (λ a. length (cover bound t a) ≤ node_count_of a) (cover_nodes bound t) roots (roots_nonempty g roots are)),
+    )

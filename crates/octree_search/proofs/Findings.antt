@@ -18,7 +18,7 @@ use Rattle.octree_search.specs.Cover.{cover_of, threshold_of}
 use Rattle.octree_search.specs.Near.{best_of, near_list}
 use Rattle.octree_search.specs.Fewest.{IsShortest, IsCoverShortest}
 use Rattle.octree_search.specs.Outcomes.{LocatedValue, IsLocated, FitsNowhere, PassesBudget, PassesNearLimit, Asks, bounded, event_cover, event_met, event_near, event_threshold, found_of, found_value, located_value, outcome_of}
-use Rattle.octree_search.specs.Inside.Arena.{areas_met, IsExplored}
+use Rattle.octree_search.specs.Arena.{areas_met, IsExplored}
 use Rattle.octree_search.specs.Inside.NearBoxes.{near_in}
 use Rattle.octree_search.proofs.Choices.{by_test}
 use Rattle.octree_search.proofs.FewestBoxes.{shortest_cover}

@@ -15,7 +15,7 @@ use Rattle.node_boxes.proofs.Lists.{all-append, first_or_rest}
 use Rattle.octree_search.specs.declared.arena.Met.{Met}
 use Rattle.octree_search.specs.declared.queue.Waiting.{Waiting}
 use Rattle.octree_search.specs.Cover.{threshold_of, stops}
-use Rattle.octree_search.specs.Inside.Arena.{areas_met, fresh, waiting, IsLinked, IsOpened}
+use Rattle.octree_search.specs.Arena.{areas_met, fresh, waiting, IsLinked, IsOpened}
 use Rattle.octree_search.specs.Inside.Meeting.{best_with, best_after, waits}
 use Rattle.octree_search.proofs.Choices.{by_test, neither}
 use Rattle.octree_search.proofs.Arenas.{linked_more, areas_more}

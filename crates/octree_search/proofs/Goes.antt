@@ -23,7 +23,7 @@ use Rattle.octree_search.specs.declared.queue.Waiting.{Waiting}
 use Rattle.octree_search.specs.Cover.{threshold_of, stops, below}
 use Rattle.octree_search.specs.Near.{best_of}
 use Rattle.octree_search.specs.Outcomes.{event_threshold, event_met}
-use Rattle.octree_search.specs.Inside.Arena.{areas_met, fresh, waiting, IsLinked, IsOpened, IsExplored}
+use Rattle.octree_search.specs.Arena.{areas_met, fresh, waiting, IsLinked, IsOpened, IsExplored}
 use Rattle.octree_search.specs.Inside.Meeting.{best_after, waits}
 use Rattle.octree_search.proofs.Choices.{by_test, neither, or_second}
 use Rattle.octree_search.proofs.Arenas.{areas_more}

@@ -12,3 +12,5 @@ pub mod Walking
 pub mod SortedNodes
 pub mod NearLists
 pub mod Findings
+pub mod FieldScores
+pub mod OutcomeMeanings

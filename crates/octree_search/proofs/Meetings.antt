@@ -19,7 +19,7 @@ use Rattle.octree_search.specs.declared.arena.Met.{Met}
 use Rattle.octree_search.specs.declared.queue.Waiting.{Waiting}
 use Rattle.octree_search.specs.Cover.{threshold_of, stops, below}
 use Rattle.octree_search.specs.Near.{best_of}
-use Rattle.octree_search.specs.Inside.Arena.{fresh, waiting}
+use Rattle.octree_search.specs.Arena.{fresh, waiting}
 use Rattle.octree_search.specs.Inside.Meeting.{best_with, best_after, wait_of, waits}
 use Rattle.octree_search.proofs.Choices.{by_test, or_cases, or_first, or_second, neither}
 use Rattle.octree_search.proofs.Covers.{below_stop}

@@ -12,7 +12,7 @@ use Rattle.node_boxes.proofs.ChildBoxes.{children_smaller}
 use Rattle.octree_search.specs.declared.arena.Met.{Met}
 use Rattle.octree_search.specs.Cover.{cover, cover_of, stops}
 use Rattle.octree_search.specs.Outcomes.{bounded}
-use Rattle.octree_search.specs.Inside.Arena.{areas_met, IsLinked, IsSettled, IsTree, no_box}
+use Rattle.octree_search.specs.Arena.{areas_met, IsLinked, IsSettled, IsTree, no_box}
 use Rattle.octree_search.proofs.Covers.{cover_open, cover_stop}
 
 -- the box at a place

@@ -7,7 +7,8 @@ use Rattle.node_boxes.specs.Octree.{IsOctreeCover}
 use Rattle.node_boxes.specs.declared.node_box.BoxBound.{BoxBound}
 use Rattle.octree_search.specs.declared.found.Found.{Found}
 use Rattle.octree_search.specs.declared.found.Found.TheVariants.{Located, NoFit, Budget, NearLimit}
-use Rattle.octree_search.specs.Cover.{stops}
+use Rattle.octree_search.specs.Cover.{cover_of, stops, threshold_of}
+use Rattle.octree_search.specs.Outcomes.{Outcome, IsLocated, FitsNowhere, PassesBudget, PassesNearLimit, bounded}
 
 -- a box lies in one of the boxes
 abbrev pub IsPartOfOne : List NodeBox → NodeBox → Type 0
@@ -33,3 +34,15 @@ IsCoverShortest roots bound t (Located event) = IsShortest roots bound t (areas_
 IsCoverShortest roots bound t (NoFit boxes met) = IsShortest roots bound t (areas_of boxes.items)
 IsCoverShortest roots bound t Budget = Unit {0}
 IsCoverShortest roots bound t NearLimit = Unit {0}
+
+-- the boxes are those of the rule at a threshold, each with its bound, and the fewest
+pub record IsShortestCover (roots : List NodeBox) (bound : NodeBox → ℕ) (t : ℕ) (boxes : List BoxBound) : Type 0 where
+  pub rule : boxes ≡ map (bounded bound) (cover_of bound t roots)
+  pub shortest : IsShortest roots bound t (map (λ (b : BoxBound). b.area) boxes)
+
+-- the cover of an outcome, where it has one, is so at the threshold of its score, or at 1 where no node scores
+abbrev pub HasShortestCover : List NodeBox → (NodeBox → ℕ) → ℕ → Outcome → Type 0
+HasShortestCover roots bound margin (IsLocated event) = IsShortestCover roots bound (threshold_of margin event.score) event.boxes
+HasShortestCover roots bound margin (FitsNowhere boxes met) = IsShortestCover roots bound 1 boxes
+HasShortestCover roots bound margin PassesBudget = Unit {0}
+HasShortestCover roots bound margin PassesNearLimit = Unit {0}

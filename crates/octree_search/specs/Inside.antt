@@ -1,4 +1,3 @@
 -- Words for the crate's own parts, on which no public clause rests.
-pub mod Arena
 pub mod Meeting
 pub mod NearBoxes

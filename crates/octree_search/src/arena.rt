@@ -1,6 +1,6 @@
 //! The boxes that were met.
 ghost use Rattle.std.specs.Prelude.{◌<◌, length};
-ghost use Rattle.octree_search.specs.Inside.Arena.{IsOpened};
+ghost use Rattle.octree_search.specs.Arena.{IsOpened};
 
 use node_boxes::NodeBox;
 

@@ -4,7 +4,7 @@ ghost use Rattle.std.specs.List.{flat_map};
 ghost use Rattle.node_boxes.specs.declared.node_box.NodeBox.{NodeBox};
 ghost use Rattle.octree_search.specs.Cover.{cover, cover_of};
 ghost use Rattle.octree_search.specs.Outcomes.{bounded};
-ghost use Rattle.octree_search.specs.Inside.Arena.{IsSettled, IsTree, areas_met, no_box};
+ghost use Rattle.octree_search.specs.Arena.{IsSettled, IsTree, areas_met, no_box};
 
 use crate::arena::Met;
 use node_boxes::BoxBound;

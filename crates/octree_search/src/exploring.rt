@@ -3,7 +3,7 @@ ghost use Rattle.std.specs.Prelude.{◌≡◌, ◌+◌, ◌*◌, ◌^◌, ◌<�
 ghost use Rattle.node_boxes.specs.Roots.{AreRoots};
 ghost use Rattle.octree_search.specs.Cover.{threshold_of};
 ghost use Rattle.octree_search.specs.Outcomes.{event_met};
-ghost use Rattle.octree_search.specs.Inside.Arena.{IsExplored};
+ghost use Rattle.octree_search.specs.Arena.{IsExplored};
 
 use crate::arena::Met;
 use crate::frontier::Frontier;

@@ -4,7 +4,7 @@ ghost use Rattle.std.specs.List.Sorted.{IsPermutation};
 ghost use Rattle.node_boxes.specs.Boxes.{IsSplittable};
 ghost use Rattle.node_boxes.specs.Children.{children_of};
 ghost use Rattle.node_boxes.specs.Octree.{IsOctreeBox};
-ghost use Rattle.octree_search.specs.Inside.Arena.{IsOpened, fresh};
+ghost use Rattle.octree_search.specs.Arena.{IsOpened, fresh};
 ghost use Rattle.octree_search.specs.Inside.Meeting.{best_after, best_with, wait_of, waits};
 
 use crate::arena::{Met, open_at};

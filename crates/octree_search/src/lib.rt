@@ -16,7 +16,7 @@ mod tests;
 
 pub use arena::{Met, open_at};
 pub use found::{Found, Located};
-pub use laws::cover_law;
+pub use laws::{cover_law, outcome_law};
 pub use nearness::threshold;
 pub use queue::Waiting;
 pub use searching::{found_from, search};

@@ -5,7 +5,7 @@ ghost use Rattle.node_boxes.specs.Roots.{AreRoots};
 ghost use Rattle.edt_score.specs.Judging.{BoundsFall};
 ghost use Rattle.octree_search.specs.Fewest.{IsCoverShortest};
 ghost use Rattle.octree_search.specs.Outcomes.{Asks, event_met, event_threshold, found_of, found_value, outcome_of};
-ghost use Rattle.octree_search.specs.Inside.Arena.{IsEnded, IsExplored};
+ghost use Rattle.octree_search.specs.Arena.{IsEnded, IsExplored};
 
 use crate::arena::Met;
 use crate::covering::collect_cover;

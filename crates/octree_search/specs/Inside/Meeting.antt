@@ -4,7 +4,7 @@ use Rattle.node_boxes.specs.declared.node_box.NodeBox.{NodeBox}
 use Rattle.node_boxes.specs.Boxes.{is_single}
 use Rattle.octree_search.specs.declared.queue.Waiting.{Waiting}
 use Rattle.octree_search.specs.Cover.{threshold_of}
-use Rattle.octree_search.specs.Inside.Arena.{waiting}
+use Rattle.octree_search.specs.Arena.{waiting}
 
 -- the best score known, with one more box, which tells its score where it is single
 abbrev pub best_with : (NodeBox → ℕ) → ℕ → NodeBox → ℕ

@@ -1,7 +1,7 @@
 use Rattle.std.proofs.Common.{◌≡◌, ◌+◌, ◌<◌, arith, sym, length, get_or}
 use Rattle.std.proofs.lemmas.List.{append-nil}
 use Rattle.node_boxes.specs.Children.{children_of}
-use Rattle.octree_search.specs.Inside.Arena.{no_box}
+use Rattle.octree_search.specs.Arena.{no_box}
 use Rattle.octree_search.proofs.Walking.{open_entry, child_entry, leaf_cover, more_cover, open_cover}
 use Rattle.octree_search.proofs.covering.+push_cover.Goals as goal
 

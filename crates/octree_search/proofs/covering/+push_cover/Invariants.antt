@@ -4,7 +4,7 @@ use Rattle.node_boxes.specs.Boxes.{node_count_of}
 use Rattle.node_boxes.specs.Children.{children_of}
 use Rattle.octree_search.specs.Cover.{cover_of}
 use Rattle.octree_search.specs.Outcomes.{bounded}
-use Rattle.octree_search.specs.Inside.Arena.{IsSettled, no_box}
+use Rattle.octree_search.specs.Arena.{IsSettled, no_box}
 use Rattle.octree_search.proofs.covering.+push_cover.Given as goal
 
 abbrev pub decreases-push_cover : goal.decreases-push_cover

@@ -1,7 +1,7 @@
 use Rattle.std.proofs.Common.{◌<◌, [], arith, length, get_or}
 use Rattle.std.proofs.lemmas.List.{length-map}
 use Rattle.octree_search.specs.declared.arena.Met.{Met}
-use Rattle.octree_search.specs.Inside.Arena.{areas_met, no_box}
+use Rattle.octree_search.specs.Arena.{areas_met, no_box}
 use Rattle.octree_search.proofs.Walking.{area_at, more_cover}
 use Rattle.octree_search.proofs.covering.collect_cover.Goals as goal
 

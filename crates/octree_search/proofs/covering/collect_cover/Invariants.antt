@@ -2,7 +2,7 @@ use Rattle.std.proofs.Common.{◌≡◌, ℕ, map, take, All}
 use Rattle.node_boxes.specs.declared.node_box.NodeBox.{NodeBox}
 use Rattle.octree_search.specs.Cover.{cover_of}
 use Rattle.octree_search.specs.Outcomes.{bounded}
-use Rattle.octree_search.specs.Inside.Arena.{IsSettled, areas_met}
+use Rattle.octree_search.specs.Arena.{IsSettled, areas_met}
 use Rattle.octree_search.proofs.covering.collect_cover.Given as goal
 
 abbrev pub invariant-loop-place : goal.invariant-loop-place

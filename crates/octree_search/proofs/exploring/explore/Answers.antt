@@ -7,7 +7,7 @@ use Rattle.node_boxes.specs.Children.{children_of}
 use Rattle.node_boxes.specs.Octree.{IsOctreeBox}
 use Rattle.edt_score.specs.Judging.{BoundsFall}
 use Rattle.octree_search.specs.declared.arena.Met.{Met}
-use Rattle.octree_search.specs.Inside.Arena.{fresh, IsOpened}
+use Rattle.octree_search.specs.Arena.{fresh, IsOpened}
 use Rattle.octree_search.specs.Inside.Meeting.{best_after, waits}
 use Rattle.octree_search.proofs.Goes.{root_trees, past_roots, goes_start, goes_opened, work_less, past_budget, top_queued, top_splittable, top_within, ends_low, opens_high, ends_empty}
 use Rattle.octree_search.proofs.exploring.explore.Goals as goal

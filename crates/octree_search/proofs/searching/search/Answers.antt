@@ -5,7 +5,7 @@ use Rattle.node_boxes.specs.Grid.{GridSize}
 use Rattle.edt_score.specs.Judging.{BoundsFall}
 use Rattle.octree_search.specs.Fewest.{IsCoverShortest}
 use Rattle.octree_search.specs.Outcomes.{event_met, event_threshold, found_of, found_value, outcome_of}
-use Rattle.octree_search.specs.Inside.Arena.{IsExplored}
+use Rattle.octree_search.specs.Arena.{IsExplored}
 use Rattle.octree_search.proofs.Findings.{outcome_within, outcome_past, asks_all, shortest_found, ok_then, asks_result}
 use Rattle.octree_search.proofs.searching.search.Goals as goal
 

@@ -3,7 +3,7 @@ use Rattle.std.specs.List.Sorted.{IsPermutation}
 use Rattle.std.proofs.lemmas.List.{length-append, length-map, length-take-le}
 use Rattle.node_boxes.specs.declared.node_box.NodeBox.{NodeBox}
 use Rattle.octree_search.specs.declared.arena.Met.{Met}
-use Rattle.octree_search.specs.Inside.Arena.{fresh}
+use Rattle.octree_search.specs.Arena.{fresh}
 use Rattle.octree_search.specs.Inside.Meeting.{best_with, wait_of}
 use Rattle.octree_search.proofs.Meetings.{met_more, best_more, queue_more}
 use Rattle.octree_search.proofs.frontier.Frontier.meet_all.Goals as goal

@@ -1,6 +1,6 @@
 use Rattle.std.proofs.Common.{◌≡◌, ◌+◌, ◌++◌, length, map, take}
 use Rattle.std.specs.List.Sorted.{IsPermutation}
-use Rattle.octree_search.specs.Inside.Arena.{fresh}
+use Rattle.octree_search.specs.Arena.{fresh}
 use Rattle.octree_search.specs.Inside.Meeting.{best_after, waits}
 use Rattle.octree_search.proofs.frontier.Frontier.meet_all.Given as goal
 
