@@ -10,6 +10,7 @@ use Rattle.event_assembly.specs.declared.assembly.Assembly.{Assembly}
 use Rattle.event_assembly.specs.declared.assembly.Case.{Case}
 use Rattle.event_assembly.specs.declared.assembly.Case.TheVariants.{Ready, Few, Many}
 use Rattle.event_assembly.specs.declared.assembly.Prepared.{Prepared}
+use Rattle.event_assembly.specs.Assembling.{roots_for}
 use Rattle.event_assembly.specs.Cases.{is_few, is_many, is_ready}
 
 -- time, weight and variance of a used pick
@@ -41,9 +42,10 @@ pub record IsPrepared (control : ControlValues) (field : FieldTimes) (event : Pr
   pub times : All HasTime event.picks.used.items
   pub case : IsCaseOf control field event.picks.used.items event.case
 
--- so many events are assembled: the grid is the control's, and each event is prepared
+-- so many events are assembled: the grid is the control's, the octree's roots are those of its cells, and each event is prepared
 pub record IsAssembled (control : ControlValues) (number : ℕ) (assembly : Assembly) : Type 0 where
   pub frame : assembly.frame ≡ control.frame
   pub grid : assembly.field.grid ≡ control.frame.grid
+  pub roots : assembly.field.roots ≡ roots_for control
   pub events : All (IsPrepared control assembly.field) assembly.events.items
   pub count : length assembly.events.items ≡ number

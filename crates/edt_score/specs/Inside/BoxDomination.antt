@@ -35,7 +35,7 @@ contains-wider a c ix iy iz part has =
     grind (arith, nat_tests, has)
 
 -- the nodes of a box in another are a part of the other's
-nodes-part : (g : GridSize) (a c : NodeBox) → IsIn g a → IsPartOf a c → IsPart (box_nodes g c) (box_nodes g a)
+pub nodes-part : (g : GridSize) (a c : NodeBox) → IsIn g a → IsPartOf a c → IsPart (box_nodes g c) (box_nodes g a)
 nodes-part g a c inside part =
     let long = box_nodes-length g c (part_inside g a c inside part) in
     let some = node_count-some c part.nonempty in

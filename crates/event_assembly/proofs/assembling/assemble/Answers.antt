@@ -79,6 +79,7 @@ returns-clause-assembled g c =
     record {
       frame = refl;
       grid = c.in_ok-field.ensures.grid;
+      roots = c.in_ok-field.ensures.roots;
       events = plan.prepared c.in_ok-field.field (rows ∙ ap length c.deref-7.ensures.value);
       count = plan.one_each ∙ length-map c.args.events.now (λ (event : Event). event.picks.items);
     }
