@@ -3,6 +3,7 @@
 
 mod best;
 mod commands;
+mod finding;
 mod locate;
 mod refusals;
 mod run;
