@@ -3,6 +3,7 @@ use Rattle.std.proofs.Common.{◌≡◌, ℕ, ◌*◌, ◌≤◌, List, Option, 
 use Rattle.std.specs.Prelude.{IfSome, IfOk, IfErr, OnOk, unwrap_or, codes, ◌≢◌}
 use Rattle.std.specs.Option.{option_map}
 use Rattle.std.proofs.Math.Nat.{mul-le-mul}
+use Rattle.kernel_table.specs.declared.kernels.Shape.TheVariants.{Gauss}
 use Rattle.node_boxes.specs.Grid.{GridSize, IsGrid, node_count}
 use Rattle.control_reader.specs.declared.control.Control.{Control}
 use Rattle.control_reader.specs.declared.draft.Draft.{Draft}
@@ -10,9 +11,9 @@ use Rattle.control_reader.specs.declared.fault.ControlCause.{ControlCause}
 use Rattle.control_reader.specs.declared.fault.ControlCause.TheVariants.{Memory}
 use Rattle.control_reader.specs.declared.fault.ControlFault.{ControlFault}
 use Rattle.control_reader.specs.ControlLines.{ControlLine, control_lines, statement_with}
-use Rattle.control_reader.specs.Values.{files_of, frame_of, method_of, sigma_of, cells_of, seed_of, count_of}
+use Rattle.control_reader.specs.Values.{files_of, frame_of, method_of, sigma_of, cells_of, seed_of, count_of, shape_of}
 use Rattle.control_reader.specs.ControlFile.{value_or, files_in, method_in, missing_fault, IsControlOf, IsReading, IsFaultOf, IsControlFault}
-use Rattle.control_reader.specs.Limits.{IsControl}
+use Rattle.control_reader.specs.Limits.{IsControl, IsShape}
 use Rattle.control_reader.specs.Inside.Said.{Said, said_of, said_in}
 use Rattle.control_reader.specs.Inside.Follows.{Follows}
 use Rattle.control_reader.specs.Inside.SaidLimits.{IsWithin, IsFiles, IsFrame, IsMethod, IsSigma, AreCells, IsMargin, IsBudget}
@@ -71,6 +72,7 @@ within_control said control within completes =
       margin = margin;
       some_budget = budget.0;
       budget = budget.1;
+      shape = or_default IsShape said.shape Gauss control.shape completes.shape within.shape tt;
     }
 
 -- a default is the same for what was said and for its statement
@@ -94,7 +96,7 @@ says_lines lines control completes = record {
   seed = completes.seed ∙ same_default _ seed_of (statement_with (codes "CONTROL") lines);
   margin = completes.margin ∙ same_default 0 count_of (statement_with (codes "EDTNEAR") lines);
   budget = completes.budget ∙ same_default (2 * node_count control.frame.grid) count_of (statement_with (codes "EDTBUDGET") lines);
-  shape = completes.shape;
+  shape = completes.shape ∙ same_default Gauss shape_of (statement_with (codes "EDTKERNEL") lines);
   passed = completes.passed;
 }
 

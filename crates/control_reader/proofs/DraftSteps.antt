@@ -14,7 +14,7 @@ use Rattle.control_reader.specs.declared.statement.LineKind.{LineKind}
 use Rattle.control_reader.specs.declared.statement.LineKind.TheVariants.{Blank, Comment, Passed, Of}
 use Rattle.control_reader.specs.Keywords.{keyword_of, is_not_yet}
 use Rattle.control_reader.specs.ControlLines.{ControlLine, kind_of, has_keyword, is_include, arguments_of, statement_with, statements_with}
-use Rattle.control_reader.specs.Values.{files_of, frame_of, method_of, sigma_of, cells_of, phase_ids_of, exclude_of, delay_of, alias_of, seed_of, count_of}
+use Rattle.control_reader.specs.Values.{files_of, frame_of, method_of, sigma_of, cells_of, phase_ids_of, exclude_of, delay_of, alias_of, seed_of, count_of, shape_of}
 use Rattle.control_reader.specs.WordFaults.{first_cause, unless, words_fault}
 use Rattle.control_reader.specs.ControlFile.{is_repeated, is_passed, is_passed_kind, statement_fault, kind_fault, fault_after}
 use Rattle.control_reader.specs.Inside.Said.{Said, said_in}
@@ -87,6 +87,7 @@ said_with kind words lines = record {
   seed = option_map seed_of (first_with Control kind words lines);
   margin = option_map count_of (first_with Edtnear kind words lines);
   budget = option_map count_of (first_with Edtbudget kind words lines);
+  shape = option_map shape_of (first_with Edtkernel kind words lines);
   phase_ids = flat_map phase_ids_of (list_with Locphaseid kind words lines);
   excludes = map exclude_of (list_with Locexclude kind words lines);
   delays = map delay_of (list_with Locdelay kind words lines);
@@ -106,6 +107,7 @@ said_more lines line = λ i. record {
   seed = ap (option_map seed_of) (first_step Control lines line) i;
   margin = ap (option_map count_of) (first_step Edtnear lines line) i;
   budget = ap (option_map count_of) (first_step Edtbudget lines line) i;
+  shape = ap (option_map shape_of) (first_step Edtkernel lines line) i;
   phase_ids = ap (flat_map phase_ids_of) (list_step Locphaseid lines line) i;
   excludes = ap (map exclude_of) (list_step Locexclude lines line) i;
   delays = ap (map delay_of) (list_step Locdelay lines line) i;
@@ -139,7 +141,7 @@ said_statement Control words lines new = let none = none_said seed_of (statement
 said_statement Include words lines new = refl
 said_statement Edtnear words lines new = let none = none_said count_of (statement_with (keyword_of Edtnear) lines) new in rw none refl
 said_statement Edtbudget words lines new = let none = none_said count_of (statement_with (keyword_of Edtbudget) lines) new in rw none refl
-said_statement Edtkernel words lines new = refl
+said_statement Edtkernel words lines new = let none = none_said shape_of (statement_with (keyword_of Edtkernel) lines) new in rw none refl
 said_statement Edtlanes words lines new = refl
 said_statement Locgau2 words lines new = refl
 
@@ -218,7 +220,7 @@ said_before Control lines known = any_with seed_of (keyword_of Control) lines
 said_before Include lines known = refl
 said_before Edtnear lines known = any_with count_of (keyword_of Edtnear) lines
 said_before Edtbudget lines known = any_with count_of (keyword_of Edtbudget) lines
-said_before Edtkernel lines known = absurd cc
+said_before Edtkernel lines known = any_with shape_of (keyword_of Edtkernel) lines
 said_before Edtlanes lines known = absurd cc
 said_before Locgau2 lines known = absurd cc
 

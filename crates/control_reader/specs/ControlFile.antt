@@ -18,7 +18,7 @@ use Rattle.control_reader.specs.declared.values.Files.{Files}
 use Rattle.control_reader.specs.declared.values.Method.{Method}
 use Rattle.control_reader.specs.Keywords.{keyword_of, is_once, is_not_yet}
 use Rattle.control_reader.specs.ControlLines.{ControlLine, control_lines, kind_of, has_keyword, is_include, arguments_of, statement_with, statements_with}
-use Rattle.control_reader.specs.Values.{files_of, frame_of, method_of, sigma_of, cells_of, phase_ids_of, exclude_of, delay_of, alias_of, seed_of, count_of}
+use Rattle.control_reader.specs.Values.{files_of, frame_of, method_of, sigma_of, cells_of, phase_ids_of, exclude_of, delay_of, alias_of, seed_of, count_of, shape_of}
 use Rattle.control_reader.specs.WordFaults.{first_cause, unless, words_fault}
 
 -- the line includes a file and stands in an included file
@@ -130,7 +130,7 @@ pub record IsControlOf (lines : List ControlLine) (control : Control) : Type 0 w
   pub seed : control.seed ≡ value_or (pos 0) seed_of (statement_with (codes "CONTROL") lines)
   pub margin : control.margin ≡ value_or 0 count_of (statement_with (codes "EDTNEAR") lines)
   pub budget : control.budget ≡ value_or (2 * node_count control.frame.grid) count_of (statement_with (codes "EDTBUDGET") lines)
-  pub shape : control.shape ≡ Gauss
+  pub shape : control.shape ≡ value_or Gauss shape_of (statement_with (codes "EDTKERNEL") lines)
   pub passed : control.passed ≡ count_by is_passed lines
 
 -- no line is faulty, no needed statement is missing, and this is what the lines say

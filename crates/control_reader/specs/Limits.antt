@@ -1,6 +1,8 @@
 -- The limits within which the values of a control file are.
 use Rattle.std.specs.Prelude.{ℕ, ◌≤◌, ◌<◌, ◌^◌, ◌≤ℤ◌, pos, IsTrue, All, unsigned_abs}
 use Rattle.text_terms.specs.Names.{is_name}
+use Rattle.kernel_table.specs.declared.kernels.Shape.{Shape}
+use Rattle.kernel_table.specs.declared.kernels.Shape.TheVariants.{Gauss, Triangle, Count}
 use Rattle.node_boxes.specs.Frame.{IsValidFrame}
 use Rattle.node_boxes.specs.Grid.{IsGrid}
 use Rattle.control_reader.specs.declared.control.Control.{Control}
@@ -34,6 +36,12 @@ pub record IsAlias (a : Alias) : Type 0 where
 abbrev pub IsCellCount : ℕ → Type 0
 IsCellCount n = (1 ≤ n) × (n ≤ 4096)
 
+-- a kernel, of which that which counts has a limit of at most 10^9 microseconds
+abbrev pub IsShape : Shape → Type 0
+IsShape Gauss = Unit {0}
+IsShape Triangle = Unit {0}
+IsShape (Count limit) = limit ≤ 10 ^ 9
+
 -- the values of a control file are within their limits
 pub record IsControl (control : Control) : Type 0 where
   pub obs_file : IsTrue (is_name 255 control.obs_file)
@@ -57,3 +65,4 @@ pub record IsControl (control : Control) : Type 0 where
   pub margin : control.margin ≤ 999
   pub some_budget : 1 ≤ control.budget
   pub budget : control.budget ≤ 4000000
+  pub shape : IsShape control.shape

@@ -1,6 +1,8 @@
 -- What single statements say, by the words behind their keywords.
 use Rattle.std.specs.Prelude.{ℕ, ◌==◌, ◌&&◌, Bool, not, nat_lt, if◌then◌else◌, max, min, List, length, map, drop, ℤ, pos, negsuc, unsigned_abs, codes}
 use Rattle.std.specs.Str.{bytes_eq}
+use Rattle.kernel_table.specs.declared.kernels.Shape.{Shape}
+use Rattle.kernel_table.specs.declared.kernels.Shape.TheVariants.{Gauss, Triangle, Count}
 use Rattle.node_boxes.specs.declared.frame.Frame.{Frame}
 use Rattle.node_boxes.specs.Grid.{grid_size}
 use Rattle.control_reader.specs.declared.control.PhaseId.{PhaseId}
@@ -96,3 +98,10 @@ include_of words = word_at 0 words
 -- EDTNEAR: the margin; EDTBUDGET: the budget
 unfoldable pub count_of : List (List ℕ) → ℕ
 count_of words = count_at 0 words
+
+-- EDTKERNEL: the kernel, behind COUNT with its limit, in microseconds
+unfoldable pub shape_of : List (List ℕ) → Shape
+shape_of words =
+    if bytes_eq (word_at 0 words) (codes "COUNT") then Count (unsigned_abs (millionths_at 1 words))
+    else if bytes_eq (word_at 0 words) (codes "TRIANGLE") then Triangle
+    else Gauss

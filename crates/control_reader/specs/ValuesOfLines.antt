@@ -8,7 +8,7 @@ use Rattle.control_reader.specs.declared.values.Method.{Method}
 use Rattle.control_reader.specs.ControlFile.{is_passed, value_or}
 use Rattle.control_reader.specs.ControlLines.{ControlLine, statement_with, statements_with}
 use Rattle.control_reader.specs.ControlValues.{ControlValues}
-use Rattle.control_reader.specs.Values.{files_of, frame_of, method_of, sigma_of, cells_of, phase_ids_of, exclude_of, delay_of, alias_of, seed_of, count_of}
+use Rattle.control_reader.specs.Values.{files_of, frame_of, method_of, sigma_of, cells_of, phase_ids_of, exclude_of, delay_of, alias_of, seed_of, count_of, shape_of}
 
 -- what a needed statement says
 abbrev pub needed : {V : Type 0} → (List (List ℕ) → V) → Option (List (List ℕ)) → V
@@ -41,6 +41,6 @@ values_in lines =
       seed = value_or (pos 0) seed_of (statement_with (codes "CONTROL") lines);
       margin = value_or 0 count_of (statement_with (codes "EDTNEAR") lines);
       budget = value_or (2 * node_count frame.grid) count_of (statement_with (codes "EDTBUDGET") lines);
-      shape = Gauss;
+      shape = value_or Gauss shape_of (statement_with (codes "EDTKERNEL") lines);
       passed = count_by is_passed lines;
     }

@@ -187,6 +187,20 @@ margin_fault words = whole_fault (from_to (pos 0) (pos 999)) (word_at 0 words)
 unfoldable pub budget_fault : List (List ℕ) → Option ControlCause
 budget_fault words = whole_fault (from_to (pos 1) (pos 4000000)) (word_at 0 words)
 
+-- EDTKERNEL: behind COUNT a decimal of 0 to 1000 seconds
+abbrev pub limit_fault : List (List ℕ) → Option ControlCause
+limit_fault words =
+    first_cause (
+    unless (nat_le 2 (length words)) Fields
+    ∷ decimal_fault (from_to (pos 0) (pos (10 ^ 9))) (word_at 1 words)
+    ∷ [])
+
+-- COUNT, or GAUSS or TRIANGLE, behind which no word is read
+unfoldable pub shape_fault : List (List ℕ) → Option ControlCause
+shape_fault words =
+    if bytes_eq (word_at 0 words) (codes "COUNT") then limit_fault words
+    else unless (bytes_eq (word_at 0 words) (codes "GAUSS") || bytes_eq (word_at 0 words) (codes "TRIANGLE")) FileType
+
 -- the first fault in the words of a statement that has enough of them
 abbrev pub fault_in_words : Statement → List (List ℕ) → Option ControlCause
 fault_in_words Locfiles words = files_fault words
@@ -202,7 +216,7 @@ fault_in_words Control words = seed_fault words
 fault_in_words Include words = include_fault words
 fault_in_words Edtnear words = margin_fault words
 fault_in_words Edtbudget words = budget_fault words
-fault_in_words Edtkernel words = None
+fault_in_words Edtkernel words = shape_fault words
 fault_in_words Edtlanes words = None
 fault_in_words Locgau2 words = None
 

@@ -88,7 +88,7 @@ pub struct Control {
     pub margin: u32,
     /// The greatest number of boxes that a search may meet, 1 to 4,000,000; twice the search nodes where none is given.
     pub budget: u32,
-    /// The kernel.
+    /// The kernel, by default `Gauss`. The limit of `Count` is at most 10^9 microseconds.
     pub shape: Shape,
     /// How many lines have a keyword that isn't read.
     pub passed: u32,

@@ -27,6 +27,7 @@ pub(crate) struct Draft {
     pub(crate) seed: Option<i64>,
     pub(crate) margin: Option<u32>,
     pub(crate) budget: Option<u32>,
+    pub(crate) shape: Option<Shape>,
     pub(crate) phase_ids: Vec<PhaseId>,
     pub(crate) excludes: Vec<Exclude>,
     pub(crate) delays: Vec<Delay>,
@@ -51,6 +52,7 @@ impl Draft {
             seed: None,
             margin: None,
             budget: None,
+            shape: None,
             phase_ids: Vec::new(alloc),
             excludes: Vec::new(alloc),
             delays: Vec::new(alloc),
@@ -143,7 +145,7 @@ impl Draft {
             seed: self.seed.unwrap_or(0),
             margin: self.margin.unwrap_or(0),
             budget: self.budget.unwrap_or(2 * frame.grid.nodes()),
-            shape: Shape::Gauss,
+            shape: self.shape.unwrap_or(Shape::Gauss),
             passed: self.passed,
         })
     }

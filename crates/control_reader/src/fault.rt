@@ -39,7 +39,7 @@ pub enum ControlCause {
     /// The method isn't `EDT`.
     #[error("a method other than EDT")]
     Method,
-    /// The file type isn't `NLLOC_OBS`, or the search type isn't `OCT`, `GRID` or `MET`.
+    /// The file type isn't `NLLOC_OBS`, or the search type isn't `OCT`, `GRID` or `MET`, or the kernel isn't `GAUSS`, `TRIANGLE` or `COUNT`.
     #[error("an unknown type")]
     FileType,
     /// A number is out of its range, or the nodes of the search grid pass 2,000,000, or it is the seventeenth `INCLUDE` line.

@@ -15,7 +15,7 @@ use crate::fault::ControlCause;
 use crate::statement::{LineKind, Statement, split_line};
 use crate::words::{
     read_alias, read_budget, read_cells, read_delay, read_exclude, read_files, read_frame,
-    read_include, read_margin, read_method, read_phase_ids, read_seed, read_sigma,
+    read_include, read_margin, read_method, read_phase_ids, read_seed, read_shape, read_sigma,
 };
 use std::alloc::Global;
 
@@ -103,6 +103,7 @@ impl Draft {
             Statement::Control => self.seed.is_some(),
             Statement::Edtnear => self.margin.is_some(),
             Statement::Edtbudget => self.budget.is_some(),
+            Statement::Edtkernel => self.shape.is_some(),
             _ => false,
         }
     }
@@ -139,7 +140,7 @@ impl Draft {
             }
             Statement::Edtnear => put(&mut self.margin, read_margin(arguments)),
             Statement::Edtbudget => put(&mut self.budget, read_budget(arguments)),
-            Statement::Edtkernel => Ok(()),
+            Statement::Edtkernel => put(&mut self.shape, read_shape(arguments)),
             Statement::Edtlanes => Ok(()),
             Statement::Locgau2 => Ok(()),
         }

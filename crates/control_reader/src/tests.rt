@@ -135,7 +135,7 @@ fn optional_words_and_statements_are_read(rt: HostRuntime) -> Result<(), Fail> {
     let alloc = rt.alloc();
     let text = "LOCFILES o NLLOC_OBS t x 1 more\nLOCGRID 2 3 4 -1.5 2.5 -0.000001 1 2 3\n\
         LOCMETH EDT -1 -2 3 4 1.73 ? 0.5 0 more\nLOCGAU 1\nLOCSEARCH OCT 0 5000 7 more\n\
-        EDTNEAR 999\nEDTBUDGET 17\nedtnear\nGTMODE GRID3D\n";
+        EDTNEAR 999\nEDTBUDGET 17\nEDTKERNEL COUNT 3.0 7\nedtnear\nGTMODE GRID3D\n";
     match read(alloc, text, &[]) {
         Ok(control) => {
             assert!(rt; control.swap);
@@ -148,6 +148,7 @@ fn optional_words_and_statements_are_read(rt: HostRuntime) -> Result<(), Fail> {
             assert!(rt; !control.reject_duplicates);
             assert!(rt; control.cells == (1, 4096, 7));
             assert!(rt; (control.margin, control.budget, control.seed) == (999, 17, 0));
+            assert!(rt; control.shape == Shape::Count(3_000_000));
             assert_eq!(rt; control.passed, 2);
         }
         Err(_) => assert!(rt; false),
@@ -306,7 +307,16 @@ const ADDED: &str = "\
     good EDTBUDGET 4000000\n\
     Limit EDTBUDGET 4000001\n\
     Number EDTBUDGET x\n\
-    NotYet EDTKERNEL\n\
+    Fields EDTKERNEL\n\
+    good EDTKERNEL TRIANGLE x\n\
+    FileType EDTKERNEL COSINE\n\
+    FileType EDTKERNEL gauss\n\
+    Fields EDTKERNEL COUNT\n\
+    good EDTKERNEL COUNT 0 x\n\
+    good EDTKERNEL COUNT 1000.0\n\
+    Number EDTKERNEL COUNT x\n\
+    Limit EDTKERNEL COUNT 1000.000001\n\
+    Limit EDTKERNEL COUNT -0.000001\n\
     NotYet EDTLANES 2\n\
     NotYet LOCGAU2 x\n\
     good LOCGAU3 x\n\
@@ -404,7 +414,7 @@ fn needed_statements_may_stand_once(rt: HostRuntime) -> Result<(), Fail> {
         let again = Some((0, number as u32 + 1, ControlCause::Repeated));
         assert!(rt; fault_of(alloc, text.as_str(), &[]) == again, "at {line}");
     }
-    for line in ["EDTNEAR 1", "EDTBUDGET 1"] {
+    for line in ["EDTNEAR 1", "EDTBUDGET 1", "EDTKERNEL GAUSS"] {
         let twice = format!(in alloc; "{line}\n{line} x\n")?;
         let text = sample_with(alloc, 10, twice.as_str())?;
         let again = Some((0, 11, ControlCause::Repeated));

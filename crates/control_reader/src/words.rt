@@ -3,6 +3,7 @@
 
 mod files;
 mod frame;
+mod kernel;
 mod method;
 mod names;
 mod numbers;
@@ -11,6 +12,7 @@ mod search;
 
 pub(crate) use files::{read_files, read_include};
 pub(crate) use frame::read_frame;
+pub(crate) use kernel::read_shape;
 pub(crate) use method::read_method;
 pub(crate) use phases::{read_alias, read_delay, read_exclude, read_phase_ids};
 pub(crate) use search::{read_budget, read_cells, read_margin, read_seed, read_sigma};

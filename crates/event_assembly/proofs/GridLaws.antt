@@ -115,7 +115,7 @@ place_below p (x ∷ xs) some = elim (cases_Bool (p x)) [
 ]
 
 -- no item passes a test that none does
-none_passes : {A : Type 0} (p : A → Bool) (xs : List A) (k : ℕ) (d : A) → list_any p xs ≡ false → k < length xs → p (get_or xs k d) ≡ false
+pub none_passes : {A : Type 0} (p : A → Bool) (xs : List A) (k : ℕ) (d : A) → list_any p xs ≡ false → k < length xs → p (get_or xs k d) ≡ false
 none_passes p xs k d none below = elim (cases_Bool (p (get_or xs k d))) [
   | inl passes ↦ let some = list_any_at p xs k d below passes in absurd (cc)
   | inr fails ↦ fails

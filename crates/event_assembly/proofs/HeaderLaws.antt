@@ -1,6 +1,6 @@
 -- What the readings of headers say of the files of a shelf.
-use Rattle.std.proofs.Common.{◌≡◌, ℕ, Bool, true, false, List, length, Option, Some, None, IfSome, Ok, refl, sym, ap, subst, ◌∙◌}
-use Rattle.std.specs.Prelude.{is_some}
+use Rattle.std.proofs.Common.{◌≡◌, ℕ, ◌<◌, get_or, Bool, true, false, List, length, Option, Some, None, IfSome, Ok, refl, sym, ap, subst, ◌∙◌}
+use Rattle.std.specs.Prelude.{is_some, is_none}
 use Rattle.std.specs.Global.{Vec}
 use Rattle.std.specs.Option.{option_map}
 use Rattle.std.proofs.lemmas.Bool.{le-ltb}
@@ -12,9 +12,13 @@ use Rattle.grid_header.specs.Causes.{cause_of}
 use Rattle.grid_header.specs.Reading.{IsReading}
 use Rattle.control_reader.specs.ControlValues.{ControlValues}
 use Rattle.station_table.specs.declared.keys.GridKey.{GridKey}
-use Rattle.event_assembly.specs.Headers.{header_of, fault_of_file}
+use Rattle.phase_reader.specs.declared.phases.Pick.{Pick}
+use Rattle.station_table.specs.Keys.{wanted_keys}
+use Rattle.event_assembly.specs.Assembling.{lacks_a_wanted_header}
+use Rattle.event_assembly.specs.Headers.{header_of, fault_of_file, has_no_header, lacks_a_header}
 use Rattle.event_assembly.specs.Names.{header_name}
 use Rattle.event_assembly.specs.Inside.Reads.{ReadsPresent, ReadsHeader, header_in}
+use Rattle.event_assembly.proofs.GridLaws.{none_passes}
 
 -- a header that was read is the header of its bytes
 pub header_of-read : (bytes : List ℕ) (header : Header) → IsReading bytes header → header ≡ header_of bytes
@@ -65,3 +69,38 @@ key_lacking (Some files) control key name text found named same tells lacks =
     let P : List ℕ → Type 0 = λ n. (fault_of_file n (files n) ≡ None) × (let none : Option Header = None in none ≡ option_map header_of (files n)) in
     let is : is_some (files name) ≡ false = subst (λ (t : List ℕ). is_some (files t) ≡ false) same (sym tells ∙ lacks) in
     subst P named (read_nowhere name (files name) is)
+
+-- a file is there or not
+there_or_not : (file : Option (List ℕ)) → is_some file ≡ false → is_none file ≡ true
+there_or_not None lacks = refl
+there_or_not (Some bytes) lacks = absurd cc
+
+-- a key with a header isn't told to lack it
+pub key_lacks : (told : Option Files) (control : ControlValues) (key : GridKey) (name text : List ℕ) (found : Bool) (before after : ℕ)
+    → name ≡ header_name control key → text ≡ name → IfSome told (λ files. Tells (files text) (Ok found)) → found ≡ false
+    → IfSome told (λ files. has_no_header files control key ≡ false → after ≡ before)
+key_lacks None control key name text found before after named same tells lacks = tt
+key_lacks (Some files) control key name text found before after named same tells lacks =
+    let is : is_some (files (header_name control key)) ≡ false =
+    subst (λ (t : List ℕ). is_some (files t) ≡ false) (same ∙ named) (sym tells ∙ lacks) in
+    λ there. absurd (let none = there_or_not (files (header_name control key)) is in cc)
+
+-- the count stays over one more key, where no key lacks its header
+pub lacks_none_more : (told now : Option Files) (control : ControlValues) (keys : List GridKey) (i : ℕ) (key : GridKey) (first mid last : ℕ)
+    → now ≡ told → i < length keys → key ≡ get_or keys i key
+    → IfSome told (λ files. lacks_a_header files control keys ≡ false → mid ≡ first)
+    → IfSome now (λ files. has_no_header files control key ≡ false → last ≡ mid)
+    → IfSome told (λ files. lacks_a_header files control keys ≡ false → last ≡ first)
+lacks_none_more None now control keys i key first mid last same below is before step = tt
+lacks_none_more (Some files) now control keys i key first mid last same below is before step =
+    let next : has_no_header files control key ≡ false → last ≡ mid = rw same at step in
+    λ all. next (subst (λ (k : GridKey). has_no_header files control k ≡ false) (sym is) (none_passes (has_no_header files control) keys i key all below)) ∙ before all
+
+-- nor over a step that asks for no header
+pub wanted_lacks : (told : Option Files) (control : ControlValues) (events : List (List Pick)) (keys : List GridKey) (first mid last : ℕ)
+    → keys ≡ wanted_keys control events → IfSome told (λ files. lacks_a_header files control keys ≡ false → mid ≡ first) → last ≡ mid
+    → IfSome told (λ files. lacks_a_wanted_header files control events ≡ false → last ≡ first)
+unfolding lacks_a_wanted_header
+wanted_lacks None control events keys first mid last is before step = tt
+wanted_lacks (Some files) control events keys first mid last is before step =
+    λ none. step ∙ before (subst (λ (ks : List GridKey). lacks_a_header files control ks ≡ false) (sym is) none)

@@ -1,5 +1,5 @@
 -- The rows of events, their field, and the first fault of their assembly.
-use Rattle.std.specs.Prelude.{ℕ, List, [], ◌∷◌, ◌++◌, length, map, flat_map, Option, Some, None, slice_get}
+use Rattle.std.specs.Prelude.{ℕ, Bool, List, [], ◌∷◌, ◌++◌, length, map, flat_map, Option, Some, None, slice_get}
 use Rattle.edt_outside.specs.Shelves.{Files}
 use Rattle.node_boxes.specs.declared.node_box.NodeBox.{NodeBox}
 use Rattle.node_boxes.specs.Roots.{roots_of}
@@ -11,8 +11,12 @@ use Rattle.station_table.specs.declared.keys.GridKey.{GridKey}
 use Rattle.station_table.specs.declared.picks.UsedPick.{UsedPick}
 use Rattle.station_table.specs.Keys.{wanted_keys}
 use Rattle.event_assembly.specs.declared.faults.AssembleFault.{AssembleFault}
-use Rattle.event_assembly.specs.Headers.{places_of, header_fault}
+use Rattle.event_assembly.specs.Headers.{places_of, header_fault, lacks_a_header}
 use Rattle.event_assembly.specs.Rows.{row_keys, row_of_key, cells_fault, row_fault, row_times}
+
+-- some key that the events' picks may need has no header among the files
+unfoldable pub lacks_a_wanted_header : Files → ControlValues → List (List Pick) → Bool
+lacks_a_wanted_header files control events = lacks_a_header files control (wanted_keys control events)
 
 -- a key, where there is one
 abbrev pub key_at : Option GridKey → List GridKey

@@ -1,5 +1,6 @@
 -- The headers of the time grids, and where their sources are.
-use Rattle.std.specs.Prelude.{ℕ, nat_lt, if◌then◌else◌, List, length, map, Option, Some, None, unwrap_or, ℤ, pos, unsigned_abs}
+use Rattle.std.specs.Prelude.{ℕ, Bool, nat_lt, if◌then◌else◌, List, length, map, Option, Some, None, is_none, unwrap_or, ℤ, pos, unsigned_abs}
+use Rattle.std.specs.List.{list_any}
 use Rattle.std.specs.Option.{option_map}
 use Rattle.fixed_decimal.specs.Value.{millionths_of, whole_of}
 use Rattle.grid_header.specs.declared.header.Header.{Header}
@@ -47,6 +48,14 @@ place_of_file (Some bytes) = At (header_of bytes).sx (header_of bytes).sy
 -- where the sources of the grids of keys are
 unfoldable pub places_of : Files → ControlValues → List GridKey → List Place
 places_of files control keys = map (λ (key : GridKey). place_of_file (files (header_name control key))) keys
+
+-- there is no header of a key
+abbrev pub has_no_header : Files → ControlValues → GridKey → Bool
+has_no_header files control key = is_none (files (header_name control key))
+
+-- some of these keys has none
+abbrev pub lacks_a_header : Files → ControlValues → List GridKey → Bool
+lacks_a_header files control keys = list_any (has_no_header files control) keys
 
 -- the fault of a header of this name that is there: more than 65,536 bytes, or the first cause for which it is refused
 abbrev pub fault_of_file : List ℕ → Option (List ℕ) → Option AssembleFault

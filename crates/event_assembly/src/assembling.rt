@@ -1,11 +1,13 @@
 //! The assembly of events.
-ghost use Rattle.std.specs.Prelude.{◌≡◌, ◌≤◌, IfOk, IfErr, OnOk, IsTrue, All, length};
+ghost use Rattle.std.specs.Prelude.{◌≡◌, ◌≤◌, IfOk, IfErr, OnOk, IfSome, IsTrue, All, false, length};
 ghost use Rattle.edt_outside.specs.Counts.{Rose, RisesExactly};
 ghost use Rattle.control_reader.specs.Limits.{IsControl};
 ghost use Rattle.control_reader.specs.ControlValues.{values_of};
 ghost use Rattle.phase_reader.specs.Limits.{IsEvent};
+ghost use Rattle.phase_reader.specs.PhaseFile.{picks_of_events};
 ghost use Rattle.event_assembly.specs.Answers.{IsToldBy, HasBodyCause, StaysEnded, assemble_failed, assemble_absent, lacks_a_grid};
 ghost use Rattle.event_assembly.specs.Assembled.{IsAssembled};
+ghost use Rattle.event_assembly.specs.Assembling.{lacks_a_wanted_header};
 
 use crate::assembly::Assembly;
 use crate::bodies::read_rows;
@@ -49,6 +51,9 @@ pub fn assemble<S: Shelf>(
     ensures lacks_stay { S.lacks shelf.old ≤ S.lacks shelf.new }
     ensures lacks { IfOk result (λ assembly.
         IsTrue (lacks_a_grid assembly.events.items) → Rose (S.lacks shelf.old) (S.lacks shelf.new)) }
+    ensures no_lacks { IfSome (S.files shelf.old) (λ files.
+        lacks_a_wanted_header files (values_of control.now) (picks_of_events events.now) ≡ false
+        → S.lacks shelf.new ≡ S.lacks shelf.old) }
     ensures calls { S.calls shelf.old ≤ S.calls shelf.new }
 {
     let keys = wanted(alloc, control, events)?;

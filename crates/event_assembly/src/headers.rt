@@ -1,12 +1,13 @@
 //! The headers of the time grids that are wanted.
-ghost use Rattle.std.specs.Prelude.{◌≡◌, ◌≤◌, [], IfOk, IfErr, OnOk, OnSome, IfSome, IsTrue, All, Some, is_none, length};
+ghost use Rattle.std.specs.Prelude.{◌≡◌, ◌≤◌, [], IfOk, IfErr, OnOk, OnSome, IfSome, IsTrue, All, Some, is_none, false, length};
 ghost use Rattle.std.specs.List.{list_any};
 ghost use Rattle.text_terms.specs.Names.{is_name};
-ghost use Rattle.edt_outside.specs.Counts.{Rose, RisesExactly};
+ghost use Rattle.edt_outside.specs.Counts.{RisesExactly};
 ghost use Rattle.grid_header.specs.Reading.{IsValidHeader};
 ghost use Rattle.control_reader.specs.ControlValues.{values_of};
 ghost use Rattle.station_table.specs.Limits.{IsKey};
 ghost use Rattle.event_assembly.specs.Answers.{HasBodyCause, StaysEnded, assemble_failed, assemble_absent};
+ghost use Rattle.event_assembly.specs.Headers.{has_no_header, lacks_a_header};
 ghost use Rattle.event_assembly.specs.Inside.Reads.{ReadsPresent, ReadsHeader, ReadsHeaders};
 
 use crate::faults::AssembleFault;
@@ -40,7 +41,9 @@ pub(crate) fn read_headers<S: Shelf>(
     ensures misses { RisesExactly (assemble_absent result) (S.misses shelf.old) (S.misses shelf.new) }
     ensures lacks_stay { S.lacks shelf.old ≤ S.lacks shelf.new }
     ensures lacks { IfOk result (λ headers.
-        IsTrue (list_any is_none headers.items) → Rose (S.lacks shelf.old) (S.lacks shelf.new)) }
+        RisesExactly (list_any is_none headers.items) (S.lacks shelf.old) (S.lacks shelf.new)) }
+    ensures no_lacks { IfSome (S.files shelf.old) (λ files. lacks_a_header files (values_of control.now) keys.now ≡ false
+        → S.lacks shelf.new ≡ S.lacks shelf.old) }
     ensures calls { S.calls shelf.old ≤ S.calls shelf.new }
 {
     let mut headers = Vec::with_capacity(alloc, keys.len())?;
@@ -68,7 +71,9 @@ fn read_key_header<S: Shelf>(
     ensures faults { RisesExactly (assemble_failed result) (S.faults shelf.old) (S.faults shelf.new) }
     ensures misses { RisesExactly (assemble_absent result) (S.misses shelf.old) (S.misses shelf.new) }
     ensures lacks_stay { S.lacks shelf.old ≤ S.lacks shelf.new }
-    ensures lacks { IfOk result (λ header. IsTrue (is_none header) → Rose (S.lacks shelf.old) (S.lacks shelf.new)) }
+    ensures lacks { IfOk result (λ header. RisesExactly (is_none header) (S.lacks shelf.old) (S.lacks shelf.new)) }
+    ensures no_lacks { IfSome (S.files shelf.old) (λ files. has_no_header files (values_of control.now) key.now ≡ false
+        → S.lacks shelf.new ≡ S.lacks shelf.old) }
     ensures calls { S.calls shelf.old ≤ S.calls shelf.new }
 {
     let name = header_name(alloc, control, key)?;

@@ -1,5 +1,5 @@
 -- The input of a run, from its stages.
-use Rattle.std.proofs.Common.{◌≡◌, ℕ, List, Option, Some, None, IfSome, Result, Ok, Err, false, refl}
+use Rattle.std.proofs.Common.{◌≡◌, ℕ, List, Option, Some, None, IfSome, Result, Ok, Err, false, refl, ◌∙◌}
 use Rattle.edt_outside.specs.Shelves.{Files}
 use Rattle.control_reader.specs.declared.control.Control.{Control}
 use Rattle.control_reader.specs.ControlValues.{values_of}
@@ -10,7 +10,9 @@ use Rattle.event_assembly.specs.declared.faults.AssembleFault.{AssembleFault}
 use Rattle.event_assembly.specs.declared.faults.AssembleFault.TheVariants.{Absent, Failed, Header, HeaderLong, Body, Align, Cells, Memory}
 use Rattle.event_assembly.specs.Answers.{IsTold}
 use Rattle.event_assembly.specs.AssemblyValues.{AssemblyValues, assembly_of}
+use Rattle.event_assembly.specs.Assembling.{lacks_a_wanted_header}
 use Rattle.run_input.specs.declared.refusals.Refusal.{Refusal}
+use Rattle.run_input.specs.FilesUnder.{lacks_a_header_under}
 use Rattle.run_input.specs.FirstRefusals.{control_refusal, phases_refusal}
 use Rattle.run_input.specs.Inputs.{input_of, input_value}
 use Rattle.run_input.specs.Refusals.{IsAnswer, is_untold, refusal_of_fault}
@@ -88,3 +90,23 @@ input_read F G H name control phases assembly same same_again read events told =
     reads None read events told = tt
     reads (Some files) read events told =
         rw (read.0, ← read.1, events.0, ← events.1.events, ← events.1.passed, told) refl
+
+-- a count that stays, whatever the files are
+pub lacks_stay : (F : Option Files) (name : List ℕ) (before after : ℕ) → after ≡ before
+    → IfSome F (λ files. lacks_a_header_under files name ≡ false → after ≡ before)
+lacks_stay None name before after same = tt
+lacks_stay (Some files) name before after same = λ none. same
+
+-- the count of lacking files over an assembly
+pub lacks_none : (F G H : Option Files) (name : List ℕ) (control : Control) (phases : Phases) (first mid last : ℕ) → G ≡ F → H ≡ F
+    → IfSome F (λ files. IsControlRead files name control) → IfSome G (λ files. ArePhasesRead files control phases)
+    → IfSome H (λ files. lacks_a_wanted_header files (values_of control) (picks_of_events phases.events.items) ≡ false → last ≡ mid) → mid ≡ first
+    → IfSome F (λ files. lacks_a_header_under files name ≡ false → last ≡ first)
+unfolding lacks_a_header_under
+lacks_none F G H name control phases first mid last same same_again read events told start = stays F read (rw same at events) (rw same_again at told)
+  where
+    stays : (F : Option Files) → IfSome F (λ files. IsControlRead files name control) → IfSome F (λ files. ArePhasesRead files control phases)
+        → IfSome F (λ files. lacks_a_wanted_header files (values_of control) (picks_of_events phases.events.items) ≡ false → last ≡ mid)
+        → IfSome F (λ files. lacks_a_header_under files name ≡ false → last ≡ first)
+    stays None read events told = tt
+    stays (Some files) read events told = λ none. told (rw (← read.1, ← events.1.events) at none) ∙ start

@@ -1,5 +1,5 @@
 -- What the files under some names say: bytes, lines, control values and events.
-use Rattle.std.specs.Prelude.{ℕ, List, [], map, count_by, unwrap_or, codes}
+use Rattle.std.specs.Prelude.{ℕ, Bool, List, [], map, count_by, unwrap_or, codes}
 use Rattle.edt_outside.specs.Shelves.{Files}
 use Rattle.control_reader.specs.ControlLines.{ControlLine, control_lines, file_lines, statements_with}
 use Rattle.control_reader.specs.ControlValues.{ControlValues}
@@ -8,6 +8,7 @@ use Rattle.control_reader.specs.ValuesOfLines.{values_in}
 use Rattle.phase_reader.specs.declared.phases.Pick.{Pick}
 use Rattle.phase_reader.specs.LineKinds.{numbered_lines, is_passed}
 use Rattle.phase_reader.specs.PhaseEvents.{events_of}
+use Rattle.event_assembly.specs.Assembling.{lacks_a_wanted_header}
 
 -- the bytes under a name, none where there is no file
 abbrev pub bytes_under : Files → List ℕ → List ℕ
@@ -32,3 +33,9 @@ passed_under files name = count_by is_passed (numbered_lines (bytes_under files 
 -- the events of the phase file of a name
 abbrev pub events_under : Files → List ℕ → List (List Pick)
 events_under files name = events_of (numbered_lines (bytes_under files name))
+
+-- some key that the picks of a run of this control file may need has no header
+unfoldable pub lacks_a_header_under : Files → List ℕ → Bool
+lacks_a_header_under files name =
+    let control : ControlValues = control_under files name in
+    lacks_a_wanted_header files control (events_under files control.obs_file)

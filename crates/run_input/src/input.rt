@@ -1,7 +1,8 @@
 //! The input of a run: its control file, its phase file and the assembly of its events.
-ghost use Rattle.std.specs.Prelude.{◌≡◌, ◌==◌, ◌≤◌, [], ◌∷◌, IsTrue, IfOk, IfErr, IfSome, OnOk, OnSome, Some};
+ghost use Rattle.std.specs.Prelude.{◌≡◌, ◌==◌, ◌≤◌, [], ◌∷◌, IsTrue, IfOk, IfErr, IfSome, OnOk, OnSome, Some, false};
 ghost use Rattle.text_terms.specs.Names.{is_name};
 ghost use Rattle.edt_outside.specs.Counts.{RisesExactly};
+ghost use Rattle.run_input.specs.FilesUnder.{lacks_a_header_under};
 ghost use Rattle.run_input.specs.Inputs.{IsInput, input_of, input_value};
 ghost use Rattle.run_input.specs.Refusals.{IsAnswer, is_cause, status_of, status_of_answer};
 ghost use Rattle.run_input.specs.Statuses.{is_one_of};
@@ -47,6 +48,8 @@ pub fn read_run<S: Shelf>(alloc: Global, shelf: &mut S, name: &str) -> Result<Ru
     ensures lacks { S.lacks shelf.old ≤ S.lacks shelf.new }
     ensures no_lacks { IfErr result (λ refusal.
         IsTrue (is_one_of (status_of refusal) (3 ∷ 4 ∷ [])) → S.lacks shelf.new ≡ S.lacks shelf.old) }
+    ensures told_lacks { IfSome (S.files shelf.old) (λ files.
+        lacks_a_header_under files name.now ≡ false → S.lacks shelf.new ≡ S.lacks shelf.old) }
     ensures calls { S.calls shelf.old ≤ S.calls shelf.new }
 {
     let control = read_control_file(alloc, shelf, name)?;

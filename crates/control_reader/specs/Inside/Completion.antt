@@ -39,5 +39,5 @@ pub record Completes (said : Said) (control : Control) : Type 0 where
   pub seed : control.seed ≡ unwrap_or said.seed (pos 0)
   pub margin : control.margin ≡ unwrap_or said.margin 0
   pub budget : control.budget ≡ unwrap_or said.budget (2 * node_count control.frame.grid)
-  pub shape : control.shape ≡ Gauss
+  pub shape : control.shape ≡ unwrap_or said.shape Gauss
   pub passed : control.passed ≡ said.passed

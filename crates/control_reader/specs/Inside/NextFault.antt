@@ -27,7 +27,7 @@ was_said Control said = is_some said.seed
 was_said Include said = false
 was_said Edtnear said = is_some said.margin
 was_said Edtbudget said = is_some said.budget
-was_said Edtkernel said = false
+was_said Edtkernel said = is_some said.shape
 was_said Edtlanes said = false
 was_said Locgau2 said = false
 

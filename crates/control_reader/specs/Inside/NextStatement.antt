@@ -5,7 +5,7 @@ use Rattle.control_reader.specs.declared.statement.Statement.TheVariants.{Locfil
 use Rattle.control_reader.specs.declared.statement.LineKind.{LineKind}
 use Rattle.control_reader.specs.declared.statement.LineKind.TheVariants.{Blank, Comment, Passed, Of}
 use Rattle.control_reader.specs.ControlLines.{ControlLine, kind_of, arguments_of}
-use Rattle.control_reader.specs.Values.{files_of, frame_of, method_of, sigma_of, cells_of, phase_ids_of, exclude_of, delay_of, alias_of, seed_of, count_of}
+use Rattle.control_reader.specs.Values.{files_of, frame_of, method_of, sigma_of, cells_of, phase_ids_of, exclude_of, delay_of, alias_of, seed_of, count_of, shape_of}
 use Rattle.control_reader.specs.Inside.Said.{Said}
 
 -- what is said with one more statement, given the words behind its keyword
@@ -23,7 +23,7 @@ with_statement Control words said = record said { seed = Some (seed_of words) }
 with_statement Include words said = record said { includes = said.includes + 1 }
 with_statement Edtnear words said = record said { margin = Some (count_of words) }
 with_statement Edtbudget words said = record said { budget = Some (count_of words) }
-with_statement Edtkernel words said = said
+with_statement Edtkernel words said = record said { shape = Some (shape_of words) }
 with_statement Edtlanes words said = said
 with_statement Locgau2 words said = said
 

@@ -3,6 +3,7 @@ use Rattle.std.specs.Prelude.{ℕ, List, map, count_by, Option, ℤ, codes}
 use Rattle.std.specs.List.{flat_map}
 use Rattle.std.specs.Option.{option_map}
 use Rattle.edt_text.specs.declared.cursor.Line.{Line}
+use Rattle.kernel_table.specs.declared.kernels.Shape.{Shape}
 use Rattle.node_boxes.specs.declared.frame.Frame.{Frame}
 use Rattle.control_reader.specs.declared.control.PhaseId.{PhaseId}
 use Rattle.control_reader.specs.declared.control.Exclude.{Exclude}
@@ -12,7 +13,7 @@ use Rattle.control_reader.specs.declared.draft.Draft.{Draft}
 use Rattle.control_reader.specs.declared.values.Files.{Files}
 use Rattle.control_reader.specs.declared.values.Method.{Method}
 use Rattle.control_reader.specs.ControlLines.{ControlLine, is_include, statement_with, statements_with}
-use Rattle.control_reader.specs.Values.{files_of, frame_of, method_of, sigma_of, cells_of, phase_ids_of, exclude_of, delay_of, alias_of, seed_of, count_of}
+use Rattle.control_reader.specs.Values.{files_of, frame_of, method_of, sigma_of, cells_of, phase_ids_of, exclude_of, delay_of, alias_of, seed_of, count_of, shape_of}
 use Rattle.control_reader.specs.ControlFile.{is_passed}
 
 -- what lines say, whether or not they have faults
@@ -25,6 +26,7 @@ pub record Said : Type 0 where
   pub seed : Option ℤ
   pub margin : Option ℕ
   pub budget : Option ℕ
+  pub shape : Option Shape
   pub phase_ids : List PhaseId
   pub excludes : List Exclude
   pub delays : List Delay
@@ -43,6 +45,7 @@ said_of draft = record {
   seed = draft.seed;
   margin = draft.margin;
   budget = draft.budget;
+  shape = draft.shape;
   phase_ids = draft.phase_ids.items;
   excludes = draft.excludes.items;
   delays = draft.delays.items;
@@ -62,6 +65,7 @@ said_in lines = record {
   seed = option_map seed_of (statement_with (codes "CONTROL") lines);
   margin = option_map count_of (statement_with (codes "EDTNEAR") lines);
   budget = option_map count_of (statement_with (codes "EDTBUDGET") lines);
+  shape = option_map shape_of (statement_with (codes "EDTKERNEL") lines);
   phase_ids = flat_map phase_ids_of (statements_with (codes "LOCPHASEID") lines);
   excludes = map exclude_of (statements_with (codes "LOCEXCLUDE") lines);
   delays = map delay_of (statements_with (codes "LOCDELAY") lines);

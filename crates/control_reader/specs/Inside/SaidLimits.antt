@@ -6,7 +6,7 @@ use Rattle.node_boxes.specs.Frame.{IsValidFrame}
 use Rattle.node_boxes.specs.Grid.{IsGrid}
 use Rattle.control_reader.specs.declared.values.Files.{Files}
 use Rattle.control_reader.specs.declared.values.Method.{Method}
-use Rattle.control_reader.specs.Limits.{IsPhaseId, IsExclude, IsDelay, IsAlias, IsCellCount}
+use Rattle.control_reader.specs.Limits.{IsPhaseId, IsExclude, IsDelay, IsAlias, IsCellCount, IsShape}
 use Rattle.control_reader.specs.Inside.Said.{Said}
 
 -- what LOCFILES says is within its limits
@@ -51,6 +51,7 @@ pub record IsWithin (said : Said) : Type 0 where
   pub cells : IfSome said.cells AreCells
   pub margin : IfSome said.margin IsMargin
   pub budget : IfSome said.budget IsBudget
+  pub shape : IfSome said.shape IsShape
   pub phase_ids : All IsPhaseId said.phase_ids
   pub excludes : All IsExclude said.excludes
   pub delays : All IsDelay said.delays

@@ -7,6 +7,7 @@ use Rattle.event_assembly.specs.Answers.{IsTold}
 use Rattle.event_assembly.specs.Assembling.{assemble_fault}
 use Rattle.event_assembly.specs.AssemblyValues.{assembly_of}
 use Rattle.event_assembly.proofs.AssembleLaws.{told_refusal, refused_headers, settled, refused_cells, refused_rows, assembled}
+use Rattle.event_assembly.proofs.HeaderLaws.{wanted_lacks}
 use Rattle.event_assembly.proofs.KeyLaws.{wanted_convertible}
 use Rattle.event_assembly.proofs.ReadLaws.{passed_on}
 use Rattle.event_assembly.proofs.assembling.assemble.Goals as goal
@@ -81,3 +82,33 @@ returns-clause-assembled g c =
       events = plan.prepared c.in_ok-field.field (rows ∙ ap length c.deref-7.ensures.value);
       count = plan.one_each ∙ length-map c.args.events.now (λ (event : Event). event.picks.items);
     }
+
+pub returns-in_err-headers-clause-no_lacks : goal.returns-in_err-headers-clause-no_lacks
+returns-in_err-headers-clause-no_lacks g c =
+    wanted_lacks (g.S.Shelf.files c.args.shelf.now) (values_of c.args.control.now) (picks_of_events c.args.events.now) c.deref.result.now
+    (g.S.Shelf.lacks c.args.shelf.now) (g.S.Shelf.lacks c.read_headers.new.shelf) (g.S.Shelf.lacks c.read_headers.new.shelf)
+    (c.deref.ensures.value ∙ c.in_ok-keys.ensures.value) c.in_err-headers.ensures.no_lacks refl
+
+pub returns-in_err-plan-clause-no_lacks : goal.returns-in_err-plan-clause-no_lacks
+returns-in_err-plan-clause-no_lacks g c =
+    wanted_lacks (g.S.Shelf.files c.args.shelf.now) (values_of c.args.control.now) (picks_of_events c.args.events.now) c.deref.result.now
+    (g.S.Shelf.lacks c.args.shelf.now) (g.S.Shelf.lacks c.read_headers.new.shelf) (g.S.Shelf.lacks c.read_headers.new.shelf)
+    (c.deref.ensures.value ∙ c.in_ok-keys.ensures.value) c.in_ok-headers.ensures.no_lacks refl
+
+pub returns-then-is_past_limit-clause-no_lacks : goal.returns-then-is_past_limit-clause-no_lacks
+returns-then-is_past_limit-clause-no_lacks g c =
+    wanted_lacks (g.S.Shelf.files c.args.shelf.now) (values_of c.args.control.now) (picks_of_events c.args.events.now) c.deref.result.now
+    (g.S.Shelf.lacks c.args.shelf.now) (g.S.Shelf.lacks c.read_headers.new.shelf) (g.S.Shelf.lacks c.read_headers.new.shelf)
+    (c.deref.ensures.value ∙ c.in_ok-keys.ensures.value) c.in_ok-headers.ensures.no_lacks refl
+
+pub returns-in_err-field-clause-no_lacks : goal.returns-in_err-field-clause-no_lacks
+returns-in_err-field-clause-no_lacks g c =
+    wanted_lacks (g.S.Shelf.files c.args.shelf.now) (values_of c.args.control.now) (picks_of_events c.args.events.now) c.deref.result.now
+    (g.S.Shelf.lacks c.args.shelf.now) (g.S.Shelf.lacks c.read_headers.new.shelf) (g.S.Shelf.lacks c.read_rows.new.shelf)
+    (c.deref.ensures.value ∙ c.in_ok-keys.ensures.value) c.in_ok-headers.ensures.no_lacks c.in_err-field.ensures.lacks
+
+pub returns-clause-no_lacks : goal.returns-clause-no_lacks
+returns-clause-no_lacks g c =
+    wanted_lacks (g.S.Shelf.files c.args.shelf.now) (values_of c.args.control.now) (picks_of_events c.args.events.now) c.deref.result.now
+    (g.S.Shelf.lacks c.args.shelf.now) (g.S.Shelf.lacks c.read_headers.new.shelf) (g.S.Shelf.lacks c.read_rows.new.shelf)
+    (c.deref.ensures.value ∙ c.in_ok-keys.ensures.value) c.in_ok-headers.ensures.no_lacks c.in_ok-field.ensures.lacks

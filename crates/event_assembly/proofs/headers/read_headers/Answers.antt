@@ -7,6 +7,7 @@ use Rattle.event_assembly.specs.Assembling.{first_fault}
 use Rattle.event_assembly.specs.Headers.{header_fault}
 use Rattle.event_assembly.specs.Inside.Reads.{header_in, ReadsHeaders}
 use Rattle.event_assembly.proofs.CountLaws.{ended_more, lacks_more}
+use Rattle.event_assembly.proofs.HeaderLaws.{lacks_none_more}
 use Rattle.event_assembly.proofs.ListLaws.{item_here}
 use Rattle.event_assembly.proofs.ReadLaws.{AreMade-more, AreMade-refused, passed_on}
 use Rattle.event_assembly.proofs.headers.read_headers.Goals as goal
@@ -41,6 +42,9 @@ loop-key-preserved g c =
       misses = one.misses ∙ kept.misses;
       lacks_stay = omega (arith, one.lacks_stay, kept.lacks_stay);
       lacks = rw pushed (lacks_more c.loop-key.headers.items c.in_ok-header.header (g.S.Shelf.lacks c.args.shelf.now) (g.S.Shelf.lacks c.loop-key.shelf)
-          (g.S.Shelf.lacks c.read_key_header.new.shelf) kept.lacks_stay one.lacks_stay kept.lacks one.lacks);
+          (g.S.Shelf.lacks c.read_key_header.new.shelf) kept.lacks one.lacks);
+      no_lacks = lacks_none_more (g.S.Shelf.files c.args.shelf.now) (g.S.Shelf.files c.loop-key.shelf) control c.args.keys.now c.loop-key.key-index c.key-item.result
+          (g.S.Shelf.lacks c.args.shelf.now) (g.S.Shelf.lacks c.loop-key.shelf) (g.S.Shelf.lacks c.read_key_header.new.shelf) kept.same_files
+          c.loop-key-test.true c.key-item.is kept.no_lacks one.no_lacks;
       calls = omega (arith, one.calls, kept.calls);
     }

@@ -1,11 +1,12 @@
-use Rattle.std.proofs.Common.{◌≡◌, List, IfSome, Ok, Err, ◌∙◌, subst}
+use Rattle.std.proofs.Common.{◌≡◌, List, IfSome, Ok, Err, false, ◌∙◌, subst}
 use Rattle.std.proofs.lemmas.Result.{err_from_is_err_and}
 use Rattle.control_reader.specs.ControlValues.{values_of}
 use Rattle.phase_reader.specs.declared.phases.Event.{Event}
 use Rattle.phase_reader.specs.PhaseFile.{picks_of_events}
 use Rattle.event_assembly.specs.Answers.{IsTold}
 use Rattle.event_assembly.specs.AssemblyValues.{assembly_of, assembly_value}
-use Rattle.run_input.proofs.InputSteps.{control_stops, phases_stop, assembly_stops, input_read}
+use Rattle.event_assembly.specs.Assembling.{lacks_a_wanted_header}
+use Rattle.run_input.proofs.InputSteps.{control_stops, phases_stop, assembly_stops, input_read, lacks_stay, lacks_none}
 use Rattle.run_input.proofs.input.read_run.Goals as goal
 
 pub returns-in_err-control-clause-told : goal.returns-in_err-control-clause-told
@@ -39,3 +40,31 @@ returns-clause-told g c =
     input_read (g.S.Shelf.files c.args.shelf.now) (g.S.Shelf.files c.read_control_file.new.shelf) (g.S.Shelf.files c.read_phase_file.new.shelf) c.args.name.now control c.in_ok-phases.phases assembly
     c.in_ok-control.ensures.same_files (c.in_ok-phases.ensures.same_files ∙ c.in_ok-control.ensures.same_files)
     c.in_ok-control.ensures.told c.in_ok-phases.ensures.told told
+
+pub returns-in_err-control-clause-told_lacks : goal.returns-in_err-control-clause-told_lacks
+returns-in_err-control-clause-told_lacks g c =
+    lacks_stay (g.S.Shelf.files c.args.shelf.now) c.args.name.now _ _ c.in_err-control.ensures.lacks
+
+pub returns-in_err-phases-clause-told_lacks : goal.returns-in_err-phases-clause-told_lacks
+returns-in_err-phases-clause-told_lacks g c =
+    lacks_stay (g.S.Shelf.files c.args.shelf.now) c.args.name.now _ _ (c.in_err-phases.ensures.lacks ∙ c.in_ok-control.ensures.lacks)
+
+pub returns-in_err-assembly-clause-told_lacks : goal.returns-in_err-assembly-clause-told_lacks
+returns-in_err-assembly-clause-told_lacks g c =
+    let control = c.in_ok-control.control in
+    let first = g.S.Shelf.lacks c.read_phase_file.new.shelf in
+    let last = g.S.Shelf.lacks c.assemble.new.shelf in
+    let told = subst (λ (es : List Event). IfSome (g.S.Shelf.files c.read_phase_file.new.shelf) (λ files. lacks_a_wanted_header files (values_of control) (picks_of_events es) ≡ false → last ≡ first)) c.deref.ensures.value c.in_err-assembly.ensures.no_lacks in
+    lacks_none (g.S.Shelf.files c.args.shelf.now) (g.S.Shelf.files c.read_control_file.new.shelf) (g.S.Shelf.files c.read_phase_file.new.shelf) c.args.name.now control c.in_ok-phases.phases
+    (g.S.Shelf.lacks c.args.shelf.now) first last c.in_ok-control.ensures.same_files (c.in_ok-phases.ensures.same_files ∙ c.in_ok-control.ensures.same_files)
+    c.in_ok-control.ensures.told c.in_ok-phases.ensures.told told (c.in_ok-phases.ensures.lacks ∙ c.in_ok-control.ensures.lacks)
+
+pub returns-clause-told_lacks : goal.returns-clause-told_lacks
+returns-clause-told_lacks g c =
+    let control = c.in_ok-control.control in
+    let first = g.S.Shelf.lacks c.read_phase_file.new.shelf in
+    let last = g.S.Shelf.lacks c.assemble.new.shelf in
+    let told = subst (λ (es : List Event). IfSome (g.S.Shelf.files c.read_phase_file.new.shelf) (λ files. lacks_a_wanted_header files (values_of control) (picks_of_events es) ≡ false → last ≡ first)) c.deref.ensures.value c.in_ok-assembly.ensures.no_lacks in
+    lacks_none (g.S.Shelf.files c.args.shelf.now) (g.S.Shelf.files c.read_control_file.new.shelf) (g.S.Shelf.files c.read_phase_file.new.shelf) c.args.name.now control c.in_ok-phases.phases
+    (g.S.Shelf.lacks c.args.shelf.now) first last c.in_ok-control.ensures.same_files (c.in_ok-phases.ensures.same_files ∙ c.in_ok-control.ensures.same_files)
+    c.in_ok-control.ensures.told c.in_ok-phases.ensures.told told (c.in_ok-phases.ensures.lacks ∙ c.in_ok-control.ensures.lacks)
