@@ -1,7 +1,8 @@
 //! The search of the octree of a field for one problem.
-ghost use Rattle.std.specs.Prelude.{◌≡◌, ◌≤◌, IfOk};
+ghost use Rattle.std.specs.Prelude.{◌≡◌, ◌≤◌, IfOk, OnOk};
 ghost use Rattle.kernel_table.specs.Falloff.{AnswersItsShape, shape_of};
 ghost use Rattle.edt_score.specs.BoxBound.{box_bound};
+ghost use Rattle.edt_score.specs.Field.{IsField};
 ghost use Rattle.edt_score.specs.Problem.{IsValidProblem};
 ghost use Rattle.octree_search.specs.Outcomes.{found_value, outcome_of};
 
@@ -22,8 +23,9 @@ pub fn find<F: Fn(u64, u64) -> u64>(
     requires valid { IsValidProblem field.now problem.now }
     requires answers { AnswersItsShape F.Fn falloff.now }
     requires margin { margin ≤ 999 }
-    ensures { IfOk result (λ found. found_value found ≡ outcome_of field.now.grid field.now.roots
+    ensures value { IfOk result (λ found. found_value found ≡ outcome_of field.now.grid field.now.roots
         (box_bound (shape_of falloff.now) field.now problem.now.picks.items) margin budget) }
+    ensures field { OnOk result (IsField field.now) }
 {
     let scorer = Scorer::new(alloc, field, problem, falloff)?;
     let mut judge = PyramidJudge::new(scorer);

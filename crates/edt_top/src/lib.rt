@@ -1,7 +1,6 @@
 //! All that `edtloc` does: `locate_run`, from its words and files to its text, its line of refusal and its status.
 #![tactic(auto)]
 
-mod best;
 mod commands;
 mod finding;
 mod locate;
