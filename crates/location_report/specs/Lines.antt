@@ -44,19 +44,24 @@ skip_line skip = line_of (codes "SKIP" ∷ decimal skip.line ∷ skip.station �
 abbrev pub coordinate : ℤ → ℤ → ℕ → ℤ
 coordinate origin spacing place = origin +ℤ pos place *ℤ spacing
 
--- the place of the hypocentre on the three axes, and where it lies
-unfoldable pub hypocentre_line : Frame → ℕ → LineText
-hypocentre_line frame node =
-    let place = place_of frame.grid node in
+-- a place on the three axes, and where it lies
+unfoldable pub place_line : ℕ × ℕ × ℕ → ℤ → ℤ → ℤ → LineText
+place_line place x y z =
     line_of (
     codes "HYPOCENTRE"
     ∷ decimal place.0
     ∷ decimal place.1
     ∷ decimal place.2
-    ∷ signed_decimal (coordinate frame.ox frame.dx place.0)
-    ∷ signed_decimal (coordinate frame.oy frame.dy place.1)
-    ∷ signed_decimal (coordinate frame.oz frame.dz place.2)
+    ∷ signed_decimal x
+    ∷ signed_decimal y
+    ∷ signed_decimal z
     ∷ [])
+
+-- the place of the hypocentre on the three axes, and where it lies
+abbrev pub hypocentre_line : Frame → ℕ → LineText
+hypocentre_line frame node =
+    let place = place_of frame.grid node in
+    place_line place (coordinate frame.ox frame.dx place.0) (coordinate frame.oy frame.dy place.1) (coordinate frame.oz frame.dz place.2)
 
 -- the origin time, given in microseconds from the start of 1970-01-01, as a date and a time of day
 unfoldable pub origin_line : ℤ → LineText

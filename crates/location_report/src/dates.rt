@@ -42,7 +42,7 @@ fn date_of_day(day: i64) -> CivilDay
 {
     let date = era_date(day.rem_euclid(ERA));
     CivilDay {
-        year: date.year + 400 * day.div_euclid(ERA),
+        year: date.year + day.div_euclid(ERA) * 400,
         month: date.month,
         day: date.day,
     }
@@ -107,7 +107,7 @@ fn push_padded(out: &mut Vec<u8>, width: usize, n: u64) -> Result<(), AllocError
 {
     let mut buffer = Buffer::new();
     let digits = buffer.format(n).as_bytes();
-    for _ in digits.len()..width {
+    for _ in 0..width.saturating_sub(digits.len()) {
         out.push(b'0')?;
     }
     out.extend_from_slice(digits)

@@ -1,5 +1,5 @@
 //! The lines of a block between its first and its certificate.
-ghost use Rattle.std.specs.Prelude.{◌≡◌, ◌++◌, ◌<◌, OnOk, IfSome, map, zip, is_some, Some, true};
+ghost use Rattle.std.specs.Prelude.{◌≡◌, ◌++◌, ◌<◌, [], ◌∷◌, OnOk, IfSome, length, map, zip, is_some, Some, true};
 ghost use Rattle.std.specs.Option.{option_map};
 ghost use Rattle.cover_certificate.specs.Blocks.{view_value};
 ghost use Rattle.cover_certificate.specs.BlockLines.{text_of_lines};
@@ -10,7 +10,7 @@ ghost use Rattle.octree_search.specs.Outcomes.{IsLocated, found_value};
 ghost use Rattle.octree_search.specs.Outcomes as outcomes;
 ghost use Rattle.event_assembly.specs.AssemblyValues.{case_value, event_value};
 ghost use Rattle.location_report.specs.Blocks.{certificate_of, certificate_value, lane_lines, report_lines, residual_word, unplaced_line};
-ghost use Rattle.location_report.specs.Lines.{pick_line, skip_line};
+ghost use Rattle.location_report.specs.Lines.{hypocentre_line, origin_line, pick_line, rms_line, skip_line};
 ghost use Rattle.location_report.specs.Reports.{HasNode, has_problem, lane_values};
 ghost use Rattle.location_report.specs.Inside.Locating.{IsPreparedOne};
 
@@ -22,6 +22,7 @@ use crate::locating::Origin;
 use cover_certificate::{BlockView, LocatedView};
 use event_assembly::{Assembly, Case, Prepared};
 use itoa::Buffer;
+use node_boxes::Frame;
 use octree_search::{Found, Located};
 use station_table::{Skip, UsedPick};
 use std::alloc::{AllocError, Global};
@@ -29,7 +30,7 @@ use std::alloc::{AllocError, Global};
 /// What the certificate of an event says, with the lists of what was found.
 pub(crate) fn certificate_of<'a>(case: &Case, found: Option<&'a Found>) -> BlockView<'a>
     ensures { view_value result
-        ≡ certificate_value (case_value case.now) (option_map (λ f. found_value f.now) found) }
+        ≡ certificate_value (case_value case.now) (option_map (λ f. found_value f.now) found.entry) }
 {
     match found {
         Some(found) => certificate_of_found(found),
@@ -71,12 +72,10 @@ pub(crate) fn push_findings(
     requires found { is_some found ≡ has_problem (case_value event.now.case) }
     requires node { IfSome found (λ f. HasNode assembly.now.frame.grid (found_value f.now)) }
     ensures { OnOk result (out.new.items ≡ out.old.items ++ text_of_lines
-        (report_lines assembly.now.frame assembly.now.field (event_value event.now) (option_map (λ f. found_value f.now) found))) }
+        (report_lines assembly.now.frame assembly.now.field (event_value event.now) (option_map (λ f. found_value f.now) found.entry))) }
 {
     match found {
-        Some(Found::Located(located)) => {
-            push_located(alloc, out, assembly, event, located)
-        }
+        Some(Found::Located(located)) => { push_located(alloc, out, assembly, event, located) }
         Some(Found::NoFit { met, .. }) => {
             push_unplaced(out, &event.picks.used)?;
             push_skips(out, &event.picks.skipped)?;
@@ -111,10 +110,26 @@ fn push_located(
     let origin = Origin::of(alloc, &assembly.field, problem, located.hyp)?;
     push_placed(out, &event.picks.used, &origin.residuals)?;
     push_skips(out, &event.picks.skipped)?;
-    push_hypocentre(out, &assembly.frame, located.hyp)?;
+    push_place_and_time(out, &assembly.frame, located.hyp, &origin)?;
+    push_met(out, located.met)?;
+    Ok(())
+}
+
+// Appends the lines of the hypocentre, of the origin time and of the root mean square.
+fn push_place_and_time(
+    out: &mut Vec<u8>,
+    frame: &Frame,
+    node: u32,
+    origin: &Origin,
+) -> Result<(), AllocError>
+    requires frame { IsValidFrame frame.now }
+    requires node { node < node_count frame.now.grid }
+    ensures { OnOk result (out.new.items ≡ out.old.items ++ text_of_lines
+        (hypocentre_line frame.now node ∷ origin_line origin.now.time ∷ rms_line origin.now.rms ∷ [])) }
+{
+    push_hypocentre(out, frame, node)?;
     push_origin(out, origin.time)?;
-    push_rms(out, origin.rms)?;
-    push_met(out, located.met)
+    push_rms(out, origin.rms)
 }
 
 // Appends the lines of used picks with their residuals.
@@ -123,14 +138,27 @@ fn push_placed(
     picks: &[UsedPick],
     residuals: &[(i64, u32)],
 ) -> Result<(), AllocError>
+    requires { length residuals.now ≡ length picks.now }
     ensures { OnOk result (out.new.items ≡ out.old.items
         ++ text_of_lines (map pick_line (zip picks.now (map residual_word residuals.now)))) }
 {
-    for (pick, residual) in picks.iter().zip(residuals.iter()) {
-        let mut word = Buffer::new();
-        push_pick(out, pick, word.format(residual.0).as_bytes())?;
+    for i in 0..picks.len() {
+        push_placed_pick(out, &picks[i], residuals[i])?;
     }
     Ok(())
+}
+
+// Appends the line of a used pick with its residual.
+fn push_placed_pick(
+    out: &mut Vec<u8>,
+    pick: &UsedPick,
+    residual: (i64, u32),
+) -> Result<(), AllocError>
+    ensures { OnOk result (out.new.items
+        ≡ out.old.items ++ text_of_lines (pick_line (pick.now, residual_word residual) ∷ [])) }
+{
+    let mut word = Buffer::new();
+    push_pick(out, pick, word.format(residual.0).as_bytes())
 }
 
 // Appends the lines of used picks without residuals.

@@ -1,14 +1,16 @@
 //! The lines of a block, appended to a text.
-ghost use Rattle.std.specs.Prelude.{◌≡◌, ◌++◌, ◌<◌, [], ◌∷◌, OnOk};
-ghost use Rattle.std.specs.List.{flat_map};
+ghost use Rattle.std.specs.Prelude.{◌≡◌, ◌++◌, ◌<◌, [], ◌∷◌, OnOk, codes, decimal};
+ghost use Rattle.std.specs.Fmt.{signed_decimal};
+ghost use Rattle.std.specs.List.{flat_map, join_with_byte};
 ghost use Rattle.cover_certificate.specs.BlockLines.{text_of_lines};
 ghost use Rattle.node_boxes.specs.Frame.{IsOrigin, IsSpacing, IsValidFrame};
 ghost use Rattle.node_boxes.specs.Grid.{node_count};
-ghost use Rattle.location_report.specs.Lines.{coordinate, event_line, pick_line, skip_line, reason_name, hypocentre_line, origin_line, rms_line, met_line, lanes_line};
+ghost use Rattle.location_report.specs.Lines.{coordinate, event_line, hypocentre_line, lanes_line, met_line, origin_line, pick_line, place_line, reason_name, rms_line, skip_line};
 ghost use Rattle.location_report.specs.Reports.{lane_values};
 
 use crate::dates::{push_clock, push_date};
 use crate::lanes::LaneCount;
+use edt_text::push_signed;
 use itoa::Buffer;
 use node_boxes::Frame;
 use station_table::{Reason, Skip, UsedPick};
@@ -92,40 +94,62 @@ pub(crate) fn push_skip(out: &mut Vec<u8>, skip: &Skip) -> Result<(), AllocError
 }
 
 /// Appends the place of the hypocentre on the axes, and where it lies in millimetres.
-#[tactic(auto, unfolding(crate::specs::Lines::hypocentre_line))]
-pub(crate) fn push_hypocentre(
-    out: &mut Vec<u8>,
-    frame: &Frame,
-    node: u32,
-) -> Result<(), AllocError>
+pub(crate) fn push_hypocentre(out: &mut Vec<u8>, frame: &Frame, node: u32) -> Result<(), AllocError>
     requires frame { IsValidFrame frame.now }
     requires node { node < node_count frame.now.grid }
     ensures { OnOk result (out.new.items ≡ out.old.items ++ text_of_lines (hypocentre_line frame.now node ∷ [])) }
 {
-    let (ix, iy, iz) = frame.grid.place(node);
-    let x = coordinate(frame.ox, frame.dx, ix);
-    let y = coordinate(frame.oy, frame.dy, iy);
-    let z = coordinate(frame.oz, frame.dz, iz);
-    let mut places = (Buffer::new(), Buffer::new(), Buffer::new());
-    let mut ways = (Buffer::new(), Buffer::new(), Buffer::new());
+    let place = frame.grid.place(node);
+    let x = coordinate(frame.ox, frame.dx, place.0);
+    let y = coordinate(frame.oy, frame.dy, place.1);
+    let z = coordinate(frame.oz, frame.dz, place.2);
+    push_place(out, place, x, y, z)
+}
+
+// Appends a place on the axes, and where it lies.
+#[tactic(auto, unfolding(crate::specs::Lines::place_line))]
+fn push_place(
+    out: &mut Vec<u8>,
+    place: (u32, u32, u32),
+    x: i64,
+    y: i64,
+    z: i64,
+) -> Result<(), AllocError>
+    ensures { OnOk result (out.new.items ≡ out.old.items ++ text_of_lines (place_line place x y z ∷ [])) }
+{
+    push_node(out, place)?;
+    push_way(out, x)?;
+    push_way(out, y)?;
+    push_way(out, z)?;
+    out.push(b'\n')?;
+    Ok(())
+}
+
+// Appends the first words of the line of a hypocentre: its place on the axes.
+fn push_node(out: &mut Vec<u8>, place: (u32, u32, u32)) -> Result<(), AllocError>
+    ensures { OnOk result (out.new.items ≡ out.old.items ++ join_with_byte 32
+        (codes "HYPOCENTRE" ∷ decimal place.0 ∷ decimal place.1 ∷ decimal place.2 ∷ [])) }
+{
+    let mut numbers = (Buffer::new(), Buffer::new(), Buffer::new());
     push_pieces(
         out,
         &[
             b"HYPOCENTRE ",
-            places.0.format(ix).as_bytes(),
+            numbers.0.format(place.0).as_bytes(),
             b" ",
-            places.1.format(iy).as_bytes(),
+            numbers.1.format(place.1).as_bytes(),
             b" ",
-            places.2.format(iz).as_bytes(),
-            b" ",
-            ways.0.format(x).as_bytes(),
-            b" ",
-            ways.1.format(y).as_bytes(),
-            b" ",
-            ways.2.format(z).as_bytes(),
-            b"\n",
+            numbers.2.format(place.2).as_bytes(),
         ],
     )
+}
+
+// Appends a blank and a number.
+fn push_way(out: &mut Vec<u8>, way: i64) -> Result<(), AllocError>
+    ensures { OnOk result (out.new.items ≡ out.old.items ++ 32 ∷ signed_decimal way) }
+{
+    out.push(b' ')?;
+    push_signed(out, way)
 }
 
 /// Appends the origin time, which is given in microseconds from the start of 1970-01-01, as a date and a time of day.
@@ -183,7 +207,6 @@ pub(crate) fn push_lanes(out: &mut Vec<u8>, count: LaneCount) -> Result<(), Allo
 fn coordinate(origin: i64, spacing: i64, place: u32) -> i64
     requires origin { IsOrigin origin }
     requires spacing { IsSpacing spacing }
-    requires place { place < 4096 }
     ensures { result ≡ coordinate origin spacing place }
 {
     origin + i64::from(place) * spacing

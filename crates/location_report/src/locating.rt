@@ -2,7 +2,7 @@
 ghost use Rattle.std.specs.Prelude.{◌≡◌, ◌≢◌, ◌≤◌, ◌<◌, ◌*◌, ◌^◌, ◌+◌, IfOk, All, length, map, unsigned_abs};
 ghost use Rattle.node_boxes.specs.Grid.{node_count};
 ghost use Rattle.edt_score.specs.Problem.{IsValidPick, IsValidProblem};
-ghost use Rattle.origin_time.specs.OriginTime.{origin_of};
+ghost use Rattle.origin_time.specs.OriginTime.{IsOriginTime, origin_of};
 ghost use Rattle.origin_time.specs.RootMeanSquare.{rms_of};
 ghost use Rattle.origin_time.specs.Weights.{total_weight};
 ghost use Rattle.location_report.specs.Blocks.{item_at, items_at, origin_at, residual_from, residuals_at};
@@ -86,7 +86,8 @@ fn item_at(field: &Field, pick: &ProblemPick, node: u32) -> (i64, u32)
 // The origin time of items whose weights don't add to 0.
 fn time_of(alloc: Global, items: &[(i64, u32)]) -> Result<i64, AllocError>
     requires { total_weight items.now ≢ 0 }
-    ensures { IfOk result (λ time. time ≡ origin_of items.now) }
+    ensures value { IfOk result (λ time. time ≡ origin_of items.now) }
+    ensures is { IfOk result (IsOriginTime items.now) }
 {
     match origin(alloc, items) {
         Ok(time) => Ok(time),
