@@ -1,4 +1,5 @@
--- Laws of runs that locate.
-pub mod OutcomeLaws
+-- Laws of runs that locate the events of a control file.
 pub mod WritingSteps
+pub mod FoundLaws
+pub mod CoverLaws
 pub mod InputSteps

@@ -1,6 +1,6 @@
 -- What the status of a run says, by how the run ended.
 use Rattle.std.proofs.Common.{◌≡◌, ℕ, ◌==◌, ◌||◌, Bool, true, false, List, [], ◌∷◌, Option, Some, None, IfSome, IfErr, Result, Ok, Err, inl, inr, refl, sym, ◌∙◌, subst, arith}
-use Rattle.std.specs.Prelude.{IsTrue}
+use Rattle.std.specs.Prelude.{IsTrue, OnOk}
 use Rattle.std.proofs.lemmas.Bool.Decides.{nat_tests}
 use Rattle.text_terms.proofs.Cases.{by_bool}
 use Rattle.edt_outside.specs.Shelves.{Files}
@@ -11,7 +11,7 @@ use Rattle.edt_top.specs.declared.refusals.RunRefusal.TheVariants.{Problem, Prob
 use Rattle.edt_top.specs.Commands.{RunCommand, Solve, Locate}
 use Rattle.edt_top.specs.RunEndings.{RunEnding, run_ending}
 use Rattle.edt_top.specs.RunRefusals.{CanRefuse, is_named_run, is_untold_run, run_status, status_after}
-use Rattle.edt_top.specs.Runs.{Answers, IsWritten, TellsLine}
+use Rattle.edt_top.specs.Runs.{Answers, HasShortestCovers, IsWritten, TellsLine}
 use Rattle.edt_top.specs.Inside.Endings.{HasCause, ToldAfter}
 use Rattle.edt_top.proofs.StatusLaws.{no_input_status}
 
@@ -131,3 +131,17 @@ pub run_line_is : (words : Option RunCommand) (command : RunCommand) (ended : Re
     → words ≡ Some command → status ≡ status_after ended → IfErr ended (HasCause command) → ToldAfter Tells Stays ended → TellsLine words status Tells Stays
 run_line_is words command ended status Tells Stays named is cause told =
     subst (λ s. TellsLine words s Tells Stays) (sym is) (line_of_ended words command ended Tells Stays named cause told)
+
+-- a run that is done has the shortest covers
+covers_of_ended : (files : Files) (command : RunCommand) (ended : Result (Unit {0}) RunRefusal) → OnOk ended (HasShortestCovers files command)
+    → status_after ended ≡ 0 → HasShortestCovers files command
+covers_of_ended files command (Ok _) covers at = covers
+covers_of_ended files command (Err refusal) covers at = absurd (no_run_status refusal 0 refl refl at)
+
+pub run_covers : (F : Option Files) (words : Option RunCommand) (command : RunCommand) (ended : Result (Unit {0}) RunRefusal) (status : ℕ)
+    → words ≡ Some command → status ≡ status_after ended → IfSome F (λ files. OnOk ended (HasShortestCovers files command))
+    → IfSome F (λ files. IfSome words (λ c. status ≡ 0 → HasShortestCovers files c))
+run_covers None words command ended status named is covers = tt
+run_covers (Some files) words command ended status named is covers =
+    subst (λ o. IfSome o (λ c. status ≡ 0 → HasShortestCovers files c)) (sym named)
+    (λ at. covers_of_ended files command ended covers (sym is ∙ at))

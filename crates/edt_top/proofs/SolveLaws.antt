@@ -2,4 +2,5 @@
 pub mod ProblemForms
 pub mod ProblemSteps
 pub mod ProblemValid
+pub mod AnswerLines
 pub mod EndingSteps

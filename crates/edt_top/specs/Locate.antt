@@ -1,3 +1,3 @@
 -- Words for runs that locate the events of a control file.
-pub mod Outcomes
+pub mod Covers
 pub mod Text

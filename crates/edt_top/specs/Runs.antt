@@ -1,11 +1,14 @@
 -- What the status of a run says of its text and its line, and which statuses a run can have.
-use Rattle.std.specs.Prelude.{◌≡◌, ℕ, ◌<◌, List, [], ◌∷◌, length, take, flat_map, IsTrue, Option, Some, Ok, Err, ◌⊎◌}
-use Rattle.run_input.specs.Inputs.{InputValues}
+use Rattle.std.specs.Prelude.{◌≡◌, ℕ, Bool, false, ◌<◌, List, [], ◌∷◌, length, take, flat_map, IsTrue, IfOk, Option, Some, Ok, Err, ⊤, ◌⊎◌}
+use Rattle.edt_outside.specs.Shelves.{Files}
+use Rattle.run_input.specs.FilesUnder.{lacks_a_header_under}
+use Rattle.run_input.specs.Inputs.{InputValues, input_of}
 use Rattle.run_input.specs.Lines.{words_line}
 use Rattle.run_input.specs.Statuses.{is_one_of}
 use Rattle.run_input.specs.Told.{IsCutShort}
 use Rattle.edt_top.specs.declared.refusals.RunRefusal.{RunRefusal}
 use Rattle.edt_top.specs.Commands.{RunCommand, Solve, Locate}
+use Rattle.edt_top.specs.Locate.Covers.{AreCoversShortest}
 use Rattle.edt_top.specs.Locate.Text.{locate_parts}
 use Rattle.edt_top.specs.RunEndings.{RunEnding}
 use Rattle.edt_top.specs.RunRefusals.{CanRefuse, program, run_line, run_status}
@@ -37,9 +40,14 @@ pub record Answers (ending : RunEnding) (status : ℕ) (Wrote Tells : List ℕ �
   pub refuses : (refusal : RunRefusal) → ending ≡ Err refusal
       → IsTrue (is_one_of status (run_status refusal ∷ 6 ∷ 7 ∷ []))
 
--- the parts are those of the text of some input
+-- the parts are those of the text of some input, whose covers are the shortest
 abbrev pub IsLocateText : List (List ℕ) → Type 0
-IsLocateText parts = (input : InputValues) × (parts ≡ locate_parts input)
+IsLocateText parts = (input : InputValues) × (parts ≡ locate_parts input) × AreCoversShortest input
+
+-- the covers of an input that the files tell are the shortest, where the command locates
+abbrev pub HasShortestCovers : Files → RunCommand → Type 0
+HasShortestCovers files (Solve name) = ⊤
+HasShortestCovers files (Locate name) = IfOk (input_of files name) AreCoversShortest
 
 -- on every shelf: a run that locates writes the parts of such a text, and want of memory leaves nothing of a run that solves
 abbrev pub WritesParts : RunCommand → ℕ → (List ℕ → Type 0) → Type 0
@@ -57,3 +65,8 @@ pub record TellsLine (command : Option RunCommand) (status : ℕ) (Tells : List 
   pub words : status ≡ 2 → Tells (words_line program)
   pub refused : IsTrue (is_one_of status (3 ∷ 4 ∷ 5 ∷ 6 ∷ 7 ∷ 8 ∷ 9 ∷ []))
       → (c : RunCommand) × (command ≡ Some c) × TellsRefusal c status Tells
+
+-- some header that a run wants isn't among the files; a run that solves wants none
+abbrev pub lacks_a_header_of : Files → RunCommand → Bool
+lacks_a_header_of files (Solve name) = false
+lacks_a_header_of files (Locate name) = lacks_a_header_under files name

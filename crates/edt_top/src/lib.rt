@@ -1,8 +1,8 @@
 //! All that `edtloc` does: `locate_run`, from its words and files to its text, its line of refusal and its status.
 #![tactic(auto)]
 
-mod best;
 mod commands;
+mod finding;
 mod locate;
 mod refusals;
 mod run;

@@ -2,13 +2,14 @@
 ghost use Rattle.std.specs.Prelude.{◌≡◌, ◌≢◌, ◌==◌, ◌≤◌, [], ◌∷◌, IsTrue, IfErr, IfSome, OnOk, OnSome, Ok, Err, Some, false};
 ghost use Rattle.text_terms.specs.Names.{is_name};
 ghost use Rattle.edt_outside.specs.Counts.{RisesExactly};
+ghost use Rattle.run_input.specs.FilesUnder.{lacks_a_header_under};
 ghost use Rattle.run_input.specs.Inputs.{input_of};
 ghost use Rattle.run_input.specs.Statuses.{is_one_of};
 ghost use Rattle.run_input.specs.Told.{Wrote};
 ghost use Rattle.edt_top.specs.Commands.{Locate};
 ghost use Rattle.edt_top.specs.RunEndings.{locate_ending};
 ghost use Rattle.edt_top.specs.RunRefusals.{is_untold_run, run_status, status_after};
-ghost use Rattle.edt_top.specs.Runs.{IsLocateText, IsWritten};
+ghost use Rattle.edt_top.specs.Runs.{HasShortestCovers, IsLocateText, IsWritten};
 ghost use Rattle.edt_top.specs.Inside.Endings.{HasCause};
 
 mod text;
@@ -34,6 +35,7 @@ pub fn locate<S: Shelf, O: Sink>(
         (status_after result) (Wrote O.taken out.old out.new)) }
     ensures refused { IfSome (S.files shelf.old) (λ files. IfErr result (λ refusal.
         is_untold_run refusal ≡ false → locate_ending (input_of files name.now) ≡ Err refusal)) }
+    ensures covers { IfSome (S.files shelf.old) (λ files. OnOk result (HasShortestCovers files (Locate name.now))) }
     ensures parts { IsWritten IsLocateText (status_after result) (Wrote O.taken out.old out.new) }
     ensures causes { IfErr result (HasCause (Locate name.now)) }
     ensures silent { IfErr result (λ refusal.
@@ -47,6 +49,8 @@ pub fn locate<S: Shelf, O: Sink>(
     ensures lacks { S.lacks shelf.old ≤ S.lacks shelf.new }
     ensures no_lacks { IfErr result (λ refusal.
         IsTrue (is_one_of (run_status refusal) (3 ∷ 4 ∷ [])) → S.lacks shelf.new ≡ S.lacks shelf.old) }
+    ensures told_lacks { IfSome (S.files shelf.old) (λ files.
+        lacks_a_header_under files name.now ≡ false → S.lacks shelf.new ≡ S.lacks shelf.old) }
     ensures calls { S.calls shelf.old ≤ S.calls shelf.new }
     ensures ended { OnOk result (OnSome (S.files shelf.old) (S.left shelf.new ≡ Some [])) }
 {

@@ -8,7 +8,7 @@ ghost use Rattle.run_input.specs.Told.{Told, Wrote};
 ghost use Rattle.edt_top.specs.Commands.{command_of, command_value, IsNamedCommand, is_solve};
 ghost use Rattle.edt_top.specs.RunEndings.{run_ending};
 ghost use Rattle.edt_top.specs.RunRefusals.{is_untold_run, run_status, status_after};
-ghost use Rattle.edt_top.specs.Runs.{Answers, IsWritten, TellsLine, WritesParts};
+ghost use Rattle.edt_top.specs.Runs.{Answers, HasShortestCovers, IsWritten, TellsLine, WritesParts, lacks_a_header_of};
 ghost use Rattle.edt_top.specs.Inside.Endings.{HasCause, ToldAfter};
 
 use crate::commands::{Command, command_of};
@@ -61,6 +61,9 @@ pub fn locate_run<S: Shelf, O: Sink, E: Sink>(
         → (Rose (S.faults shelf.old) (S.faults shelf.new) → ⊥) → (Rose (O.faults out.old) (O.faults out.new) → ⊥)
         → IsTrue (is_one_of result (0 ∷ 6 ∷ [])))) }
 
+    ensures covers { IfSome (S.files shelf.old) (λ files. IfSome (command_of (map string_bytes words.now)) (λ command.
+        result ≡ 0 → HasShortestCovers files command)) }
+
     // What was written and what was told, on every shelf.
     ensures parts { IfSome (command_of (map string_bytes words.now)) (λ command.
         WritesParts command result (Wrote O.taken out.old out.new)) }
@@ -75,6 +78,8 @@ pub fn locate_run<S: Shelf, O: Sink, E: Sink>(
     ensures absences { RisesExactly (result == 9) (S.misses shelf.old) (S.misses shelf.new) }
     ensures lacks { S.lacks shelf.old ≤ S.lacks shelf.new }
     ensures no_lacks { IsTrue (is_one_of result (2 ∷ 3 ∷ 4 ∷ [])) → S.lacks shelf.new ≡ S.lacks shelf.old }
+    ensures told_lacks { IfSome (S.files shelf.old) (λ files. IfSome (command_of (map string_bytes words.now)) (λ command.
+        lacks_a_header_of files command ≡ false → S.lacks shelf.new ≡ S.lacks shelf.old)) }
     ensures calls { S.calls shelf.old ≤ S.calls shelf.new }
     ensures no_calls { result ≡ 2 → S.calls shelf.new ≡ S.calls shelf.old }
 
@@ -111,6 +116,8 @@ fn run<S: Shelf, O: Sink>(
         (status_after result) (Wrote O.taken out.old out.new)) }
     ensures refused { IfSome (S.files shelf.old) (λ files. IfErr result (λ refusal.
         is_untold_run refusal ≡ false → run_ending files (command_value command.now) ≡ Err refusal)) }
+    ensures covers { IfSome (S.files shelf.old) (λ files. OnOk result
+        (HasShortestCovers files (command_value command.now))) }
     ensures parts { WritesParts (command_value command.now) (status_after result) (Wrote O.taken out.old out.new) }
     ensures causes { IfErr result (HasCause (command_value command.now)) }
     ensures silent { IfErr result (λ refusal.
@@ -124,6 +131,8 @@ fn run<S: Shelf, O: Sink>(
     ensures lacks { S.lacks shelf.old ≤ S.lacks shelf.new }
     ensures no_lacks { IfErr result (λ refusal.
         IsTrue (is_one_of (run_status refusal) (3 ∷ 4 ∷ [])) → S.lacks shelf.new ≡ S.lacks shelf.old) }
+    ensures told_lacks { IfSome (S.files shelf.old) (λ files.
+        lacks_a_header_of files (command_value command.now) ≡ false → S.lacks shelf.new ≡ S.lacks shelf.old) }
     ensures solve_lacks { IsTrue (is_solve (command_value command.now)) → S.lacks shelf.new ≡ S.lacks shelf.old }
     ensures calls { S.calls shelf.old ≤ S.calls shelf.new }
     ensures solve_calls { IsTrue (is_solve (command_value command.now))

@@ -1,22 +1,15 @@
 -- Parts of a text, written one after another.
 use Rattle.std.proofs.Common.{◌≡◌, ℕ, suc, ◌+◌, ◌<◌, List, [], ◌∷◌, ◌++◌, length, take, drop, get_or, Option, Err, Ok, Result, map, refl, sym, ◌∙◌, ap, subst, append-nil, append_assoc, arith}
 use Rattle.std.proofs.Math.Seq.{take-append_seam}
-use Rattle.std.proofs.lemmas.List.{get_or-map, length-append, length-map, length-take-le}
+use Rattle.std.proofs.lemmas.List.{length-append, length-map, length-take-le}
 use Rattle.std.proofs.lemmas.List.FromFn.{length-enumerate_from}
 use Rattle.std.proofs.lemmas.Grind.{flat_map-append}
 use Rattle.std.specs.List.{enumerate_from}
 use Rattle.edt_outside.specs.Sinks.{Appends}
 use Rattle.edt_top.specs.declared.writing.WriteFault.{WriteFault}
 use Rattle.edt_top.specs.declared.writing.WriteFault.TheVariants.{Failed, Memory}
-use Rattle.kernel_table.specs.declared.kernels.Shape.{Shape}
-use Rattle.edt_score.specs.Field.{FieldTimes}
-use Rattle.event_assembly.specs.declared.assembly.Prepared.{Prepared}
-use Rattle.event_assembly.specs.AssemblyValues.{EventValues, case_value, event_value}
-use Rattle.location_report.specs.declared.outcome.Outcome.{Outcome}
-use Rattle.location_report.specs.Blocks.{block_text}
 use Rattle.run_input.specs.Told.{IsCutShort}
 use Rattle.edt_top.specs.Inside.Writing.{WritingEnds}
-use Rattle.edt_top.specs.Locate.Text.{event_block, outcome_of_case}
 use Rattle.edt_top.specs.Runs.{joined}
 use Rattle.run_input.proofs.NumberedLaws.{numbered, numbered_at, numbered_upto}
 use Rattle.run_input.proofs.SinkFronts.{appends_then, appends_none, front_of_whole}
@@ -79,18 +72,6 @@ writes_next f xs i d part before mid after within is written next =
     ap (λ p. joined first ++ joined (p ∷ [])) is ∙ (sym (joined_append first (f (i + 1, get_or xs i d) ∷ []))
     ∙ (ap joined (sym (numbered_upto f xs i d within)) ∙ ap (λ k. joined (numbered f (take k xs))) step)) in
     subst (Appends before after) whole (appends_then before mid after (joined first) (joined (part ∷ [])) written next)
-
--- the block of an event, from its parts
-pub block_is : (shape : Shape) (field : FieldTimes) (n i : ℕ) (event d : Prepared) (events : List Prepared) (outcome : Outcome) (text : List ℕ)
-    → text ≡ block_text n event.picks.used.items event.picks.skipped.items outcome → outcome ≡ outcome_of_case shape field (case_value event.case)
-    → n ≡ i + 1 → i < length events → event ≡ get_or events i d
-    → text ≡ event_block shape field (i + 1, get_or (map event_value events) i (event_value event))
-block_is shape field n i event d events outcome text is made at within same =
-    is
-    ∙ (ap (block_text n event.picks.used.items event.picks.skipped.items) made
-    ∙ (ap (λ k. event_block shape field (k, event_value event)) at
-    ∙ ap (λ (e : EventValues). event_block shape field (i + 1, e))
-    (ap event_value same ∙ sym (get_or-map event_value events i d (event_value event) within))))
 
 -- the first part was cut short, or there was no memory for it
 pub writing_first : (before mid : Option (List ℕ)) (first : List ℕ) (parts : List (List ℕ)) (fault : WriteFault) → WritingEnds (first ∷ []) (Err fault) (Appends before mid)

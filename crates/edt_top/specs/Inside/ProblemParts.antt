@@ -29,6 +29,7 @@ NamesFault words Memory = ⊤
 pub record IsReadFrom (words : Words) (file : ProblemFile) : Type 0 where
   pub whole : IsProblemFile words
   pub some : 0 < nodes_in words
+  pub few : nodes_in words ≤ 65536
   pub field : file.field ≡ field_in words
   pub picks : file.problem.picks.items ≡ picks_of words
   pub valid : IsValidProblem file.field file.problem

@@ -1,25 +1,27 @@
 //! The text of a run that locates: its head line and the blocks of its events.
-ghost use Rattle.std.specs.Prelude.{◌≡◌, [], ◌∷◌, IfOk, vec_len};
+ghost use Rattle.std.specs.Prelude.{◌≡◌, ◌+◌, ◌<◌, [], ◌∷◌, IfOk, IfSome, length};
+ghost use Rattle.std.specs.Option.{option_map};
 ghost use Rattle.edt_outside.specs.Counts.{RisesExactly};
 ghost use Rattle.control_reader.specs.ControlValues.{values_of};
 ghost use Rattle.kernel_table.specs.Falloff.{AnswersItsShape, shape_of};
-ghost use Rattle.edt_score.specs.Problem.{IsValidProblem};
+ghost use Rattle.octree_search.specs.Outcomes.{found_value};
 ghost use Rattle.event_assembly.specs.Assembled.{IsPrepared};
 ghost use Rattle.event_assembly.specs.AssemblyValues.{assembly_value, case_value};
-ghost use Rattle.location_report.specs.Blocks.{outcome_of_best};
+ghost use Rattle.location_report.specs.Reports.{IsTellable, event_at};
+ghost use Rattle.location_report.specs.Texts.{blocks_of, event_block, head_line, outcome_of_case};
 ghost use Rattle.run_input.specs.Inputs.{IsInput, input_value};
 ghost use Rattle.run_input.specs.Told.{Wrote};
-ghost use Rattle.edt_top.specs.Locate.Outcomes.{outcome_of_picks};
-ghost use Rattle.edt_top.specs.Locate.Text.{blocks_of, head_line, locate_parts, outcome_of_case};
+ghost use Rattle.edt_top.specs.Locate.Covers.{AreCoversShortest};
+ghost use Rattle.edt_top.specs.Locate.Text.{locate_parts};
 ghost use Rattle.edt_top.specs.Inside.Writing.{WritingEnds, write_failed};
 
-use crate::best::{Best, best_node};
+use crate::finding::find;
 use crate::writing::{WriteFault, put_part};
 use edt_outside::Sink;
-use edt_score::{Field, Problem};
 use event_assembly::{Case, Prepared};
 use kernel_table::{Falloff, Shape, count, gauss, triangle};
-use location_report::{Outcome, report};
+use location_report::report;
+use octree_search::Found;
 use run_input::RunInput;
 use std::alloc::{AllocError, Global};
 
@@ -27,8 +29,11 @@ use std::alloc::{AllocError, Global};
 pub fn write_text<O: Sink>(alloc: Global, out: &mut O, input: &RunInput) -> Result<(), WriteFault>
     requires input { IsInput input.now }
     ensures told { WritingEnds (locate_parts (input_value input.now)) result (Wrote O.taken out.old out.new) }
+    ensures covers { AreCoversShortest (input_value input.now) }
     ensures writes { RisesExactly (write_failed result) (O.faults out.old) (O.faults out.new) }
 {
+    // These are roots of the field's grid, and so no cover of their octree can be shorter.
+    let _roots = input.assembly.field.roots();
     write_head(
         alloc,
         out,
@@ -40,7 +45,7 @@ pub fn write_text<O: Sink>(alloc: Global, out: &mut O, input: &RunInput) -> Resu
 }
 
 // Writes the head line: how many events there are, and how many lines of the control file and of the phase file were passed over.
-#[tactic(auto, unfolding(crate::specs::Locate::Text::head_line))]
+#[tactic(auto, unfolding(location_report::specs::Texts::head_line))]
 fn write_head<O: Sink>(
     alloc: Global,
     out: &mut O,
@@ -61,7 +66,7 @@ fn write_head<O: Sink>(
 // Writes the blocks of the events of an input, with the kernel of its shape.
 fn write_shaped<O: Sink>(alloc: Global, out: &mut O, input: &RunInput) -> Result<(), WriteFault>
     requires input { IsInput input.now }
-    ensures told { WritingEnds (blocks_of input.now.control.shape (assembly_value input.now.assembly)) result
+    ensures told { WritingEnds (blocks_of (values_of input.now.control) (assembly_value input.now.assembly)) result
         (Wrote O.taken out.old out.new) }
     ensures writes { RisesExactly (write_failed result) (O.faults out.old) (O.faults out.new) }
 {
@@ -91,65 +96,69 @@ fn write_blocks<O: Sink, F: Fn(u64, u64) -> u64>(
 ) -> Result<(), WriteFault>
     requires input { IsInput input.now }
     requires answers { AnswersItsShape F.Fn falloff.now }
-    ensures told { WritingEnds (blocks_of (shape_of falloff.now) (assembly_value input.now.assembly)) result
+    requires shape { shape_of falloff.now ≡ input.now.control.shape }
+    ensures told { WritingEnds (blocks_of (values_of input.now.control) (assembly_value input.now.assembly)) result
         (Wrote O.taken out.old out.new) }
     ensures writes { RisesExactly (write_failed result) (O.faults out.old) (O.faults out.new) }
 {
-    let mut number: u32 = 0;
-    for event in &input.assembly.events {
-        number += 1;
-        let outcome = outcome_of_event(alloc, input, event, falloff)?;
-        let block = report(alloc, number, event, outcome)?;
+    for place in 0..input.assembly.events.len() {
+        let block = event_block(alloc, input, place, falloff)?;
         put_part(out, &block)?;
     }
     Ok(())
 }
 
-// What becomes of an event.
-fn outcome_of_event<F: Fn(u64, u64) -> u64>(
+// The block of the event at a place, whose number is one more, with what the search finds of it.
+fn event_block<F: Fn(u64, u64) -> u64>(
+    alloc: Global,
+    input: &RunInput,
+    place: usize,
+    falloff: &Falloff<F>,
+) -> Result<Vec<u8>, AllocError>
+    requires input { IsInput input.now }
+    requires place { place < length input.now.assembly.events.items }
+    requires answers { AnswersItsShape F.Fn falloff.now }
+    requires shape { shape_of falloff.now ≡ input.now.control.shape }
+    ensures { IfOk result (λ block. block.items ≡ event_block (values_of input.now.control)
+        (assembly_value input.now.assembly) (place + 1, event_at input.now.assembly (place + 1))) }
+{
+    let found = find_event(alloc, input, &input.assembly.events[place], falloff)?;
+    report(
+        alloc,
+        place as u32 + 1,
+        &input.assembly,
+        found.as_ref(),
+        None,
+    )
+}
+
+// What the search finds of an event, unless it has few or many used picks.
+fn find_event<F: Fn(u64, u64) -> u64>(
     alloc: Global,
     input: &RunInput,
     event: &Prepared,
     falloff: &Falloff<F>,
-) -> Result<Outcome, AllocError>
+) -> Result<Option<Found>, AllocError>
+    requires input { IsInput input.now }
     requires prepared { IsPrepared (values_of input.now.control) input.now.assembly.field event.now }
     requires answers { AnswersItsShape F.Fn falloff.now }
-    ensures { IfOk result (λ outcome. outcome
-        ≡ outcome_of_case (shape_of falloff.now) input.now.assembly.field (case_value event.now.case)) }
+    requires shape { shape_of falloff.now ≡ input.now.control.shape }
+    ensures value { IfOk result (λ found. option_map found_value found
+        ≡ outcome_of_case (values_of input.now.control) input.now.assembly.field (case_value event.now.case)) }
+    ensures tellable { IfOk result (λ found. IfSome found (λ f.
+        IsTellable input.now.assembly.frame.grid (found_value f))) }
 {
-    match &event.case {
-        Case::Few => Ok(Outcome::FewPicks),
-        Case::Many => Ok(Outcome::ManyPicks),
-        Case::Ready(problem) => outcome_of_problem(alloc, &input.assembly.field, problem, falloff),
-    }
-}
-
-// The outcome of a problem: its first best node, or no fit where every node scores 0.
-fn outcome_of_problem<F: Fn(u64, u64) -> u64>(
-    alloc: Global,
-    field: &Field,
-    problem: &Problem,
-    falloff: &Falloff<F>,
-) -> Result<Outcome, AllocError>
-    requires valid { IsValidProblem field.now problem.now }
-    requires answers { AnswersItsShape F.Fn falloff.now }
-    ensures { IfOk result (λ outcome. outcome
-        ≡ outcome_of_picks (shape_of falloff.now) field.now problem.now.picks.items) }
-{
-    let best = best_node(alloc, field, problem, falloff)?;
-    Ok(outcome_of_best(best))
-}
-
-// The outcome of a first best node.
-fn outcome_of_best(best: Best) -> Outcome
-    ensures { result ≡ outcome_of_best best.node best.score }
-{
-    if best.score == 0 {
-        Outcome::NoFit
-    } else {
-        Outcome::Located {
-            node: best.node,
-            score: best.score,
-        }
-    }
+    let Case::Ready(problem) = &event.case else {
+        return Ok(None);
+    };
+    let control = &input.control;
+    let found = find(
+        alloc,
+        &input.assembly.field,
+        problem,
+        falloff,
+        control.margin,
+        control.budget,
+    )?;
+    Ok(Some(found))
 }

@@ -70,7 +70,7 @@ fn ends_with_a_failing_write(rt: HostRuntime) -> Result<(), Fail> {
             "EDTLOC 1 EVENTS 1 PASSED 2 0\nEVENT 1 PI",
             "edtloc: write\n",
         ),
-        (50, 0, TEXT, ""),
+        (60, 0, TEXT, ""),
     ] {
         let failing = [write];
         let mut run = plain(&["locate", "e1.in"]);

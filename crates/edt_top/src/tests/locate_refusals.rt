@@ -22,6 +22,16 @@ fn names_the_first_faulty_line_of_a_control_file(rt: HostRuntime) -> Result<(), 
         (GRID_LINE, twice.as_str(), "edtloc: control 0 7 Repeated\n"),
         (GRID_LINE, "", "edtloc: control 0 0 Missing LOCGRID\n"),
         (LAST_LINE, errors.as_str(), "edtloc: control 0 10 NotYet\n"),
+        (
+            "# sample",
+            "EDTKERNEL COUNT",
+            "edtloc: control 0 1 Fields\n",
+        ),
+        (
+            "# sample",
+            "EDTKERNEL COSINE",
+            "edtloc: control 0 1 FileType\n",
+        ),
     ] {
         expect_refused(&rt, alloc, &[Swap("e1.in", old, new)], 3, err)?;
     }

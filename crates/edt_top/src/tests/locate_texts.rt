@@ -13,6 +13,8 @@ const METHOD_LINE: &str = "LOCMETH EDT 9999.0 2 -1 -1 -1 0\n";
 
 const LAST_LINE: &str = "LOCSEARCH OCT 1 1 1 0.01 10000 5000 0 1\n";
 
+const SECOND_PICK: &str = "BBB ? ? ? P U 19940217 2216 46.0000 GAU";
+
 #[test]
 fn writes_the_text_of_the_sample_in_any_pieces(rt: HostRuntime) -> Result<(), Fail> {
     let alloc = rt.alloc();
@@ -29,39 +31,37 @@ fn writes_the_text_of_the_sample_in_any_pieces(rt: HostRuntime) -> Result<(), Fa
     Ok(())
 }
 
-#[test]
-fn writes_the_head_line_alone_for_an_empty_phase_file(rt: HostRuntime) -> Result<(), Fail> {
-    let changes = [Put("obs.txt", b"")];
-    expect_text(&rt, rt.alloc(), &changes, "EDTLOC 1 EVENTS 0 PASSED 2 0\n")
-}
-
-// Asserts that the sample's text is written after these lines are put after its control file and this text for that in its phase file.
-fn expect_same_text<'x>(
+// Asserts that this text is written after this line is put after the sample's control file and this text for that in its phase file.
+fn expect_with_line<'x>(
     rt: &impl Abort,
     alloc: Global,
-    lines: &str,
+    line: &str,
     old: &'x str,
     new: &'x str,
+    text: &str,
 ) -> Result<(), Fail> {
-    let last = format!(in alloc; "{LAST_LINE}{lines}\n")?;
+    let last = format!(in alloc; "{LAST_LINE}{line}\n")?;
     let changes = [
         Swap("e1.in", LAST_LINE, last.as_str()),
         Swap("obs.txt", old, new),
     ];
-    expect_text(rt, alloc, &changes, TEXT)
+    expect_text(rt, alloc, &changes, text)
 }
 
 #[test]
-fn takes_delays_and_aliases_into_account(rt: HostRuntime) -> Result<(), Fail> {
+fn writes_the_same_text_where_another_statement_changes_nothing(
+    rt: HostRuntime,
+) -> Result<(), Fail> {
     let alloc = rt.alloc();
-    expect_same_text(&rt, alloc, "LOCDELAY BBB P 5 0.5", "46.0000", "46.5000")?;
-    let alias = "LOCALIAS BBX BBB 0 0 0 9999 99 99";
-    expect_same_text(&rt, alloc, alias, "BBB", "BBX")
-}
-
-#[test]
-fn reads_included_statements(rt: HostRuntime) -> Result<(), Fail> {
-    let alloc = rt.alloc();
+    for (line, old, new) in [
+        ("LOCDELAY BBB P 5 0.5", "46.0000", "46.5000"),
+        ("LOCALIAS BBX BBB 0 0 0 9999 99 99", "BBB", "BBX"),
+        // As many boxes as are met.
+        ("EDTBUDGET 5", "46.0000", "46.0"),
+        ("EDTNEAR 999", "46.0000", "46.0"),
+    ] {
+        expect_with_line(&rt, alloc, line, old, new, TEXT)?;
+    }
     let both = format!(in alloc; "{GRID_LINE}{METHOD_LINE}")?;
     let changes = [
         Swap("e1.in", both.as_str(), "INCLUDE grid.in\n"),
@@ -87,55 +87,104 @@ fn reads_bodies_whose_greatest_byte_comes_first(rt: HostRuntime) -> Result<(), F
 }
 
 #[test]
-fn skips_a_pick_without_a_grid(rt: HostRuntime) -> Result<(), Fail> {
-    expect_text(
-        &rt,
-        rt.alloc(),
-        &[Remove("time/a.P.BBB.time.hdr")],
-        "EDTLOC 1 EVENTS 1 PASSED 2 0
+fn tells_the_picks_that_are_not_used_and_the_events_that_are_not_located(
+    rt: HostRuntime,
+) -> Result<(), Fail> {
+    let duplicate = "BBB ? ? ? P U 19940217 2216 46.0000 GAU 1.00e-01 -1.00e+00 -1.00e+00 -1.00e+00
+AAA ? ? ? P U 19940217 2216 45.0000 GAU";
+    for (change, text) in [
+        (Put("obs.txt", b""), "EDTLOC 1 EVENTS 0 PASSED 2 0\n"),
+        (
+            Remove("time/a.P.BBB.time.hdr"),
+            "EDTLOC 1 EVENTS 1 PASSED 2 0
 EVENT 1 PICKS 1 SKIPPED 1
 PICK AAA P 761523405000000 1000 -
 SKIP 2 BBB P NOGRID
 CERT FEW
 END
 ",
-    )
-}
-
-#[test]
-fn skips_far_picks(rt: HostRuntime) -> Result<(), Fail> {
-    expect_text(
-        &rt,
-        rt.alloc(),
-        &[Swap("e1.in", "EDT 9999.0", "EDT 1.0")],
-        "EDTLOC 1 EVENTS 1 PASSED 2 0
+        ),
+        (
+            Swap("e1.in", "EDT 9999.0", "EDT 1.0"),
+            "EDTLOC 1 EVENTS 1 PASSED 2 0
 EVENT 1 PICKS 0 SKIPPED 2
 SKIP 1 AAA P FAR
 SKIP 2 BBB P FAR
 CERT FEW
 END
 ",
-    )
-}
-
-#[test]
-fn skips_a_duplicate(rt: HostRuntime) -> Result<(), Fail> {
-    let after = "BBB ? ? ? P U 19940217 2216 46.0000 GAU 1.00e-01 -1.00e+00 -1.00e+00 -1.00e+00
-AAA ? ? ? P U 19940217 2216 45.0000 GAU";
-    expect_text(
-        &rt,
-        rt.alloc(),
-        &[Swap("obs.txt", "BBB ? ? ? P U 19940217 2216 46.0000 GAU", after)],
-        "EDTLOC 1 EVENTS 1 PASSED 2 0
+        ),
+        (
+            Swap("obs.txt", SECOND_PICK, duplicate),
+            "EDTLOC 1 EVENTS 1 PASSED 2 0
 EVENT 1 PICKS 2 SKIPPED 1
-PICK AAA P 761523405000000 1000 -
-PICK BBB P 761523406000000 1000 -
+PICK AAA P 761523405000000 1000 0
+PICK BBB P 761523406000000 1000 0
 SKIP 3 AAA P DUPLICATE
+HYPOCENTRE 0 0 0 10000000 0 0
+ORIGIN 1994-02-17 22:16:44.000000
+RMS 0
+MET 5
 CERT LOCATED
 BEST 0 343597383680
+NEAR 1
+0 343597383680
+COVER 3
+0 1 0 1 0 1 343597383680
+1 2 0 1 0 1 0
+2 4 0 1 0 1 0
 END
 ",
-    )
+        ),
+        // The picks are too far apart for any node.
+        (
+            Swap("obs.txt", "46.0000", "56.0000"),
+            "EDTLOC 1 EVENTS 1 PASSED 2 0
+EVENT 1 PICKS 2 SKIPPED 0
+PICK AAA P 761523405000000 1000 -
+PICK BBB P 761523416000000 1000 -
+MET 1
+CERT NOFIT
+COVER 1
+0 4 0 1 0 1 0
+END
+",
+        ),
+        (
+            Swap("e1.in", "# sample", "EDTBUDGET 4"),
+            "EDTLOC 1 EVENTS 1 PASSED 2 0
+EVENT 1 PICKS 2 SKIPPED 0
+PICK AAA P 761523405000000 1000 -
+PICK BBB P 761523406000000 1000 -
+CERT BUDGET
+END
+",
+        ),
+        // Comments part no events, and passed lines neither.
+        (
+            Swap(
+                "obs.txt",
+                "BBB ?",
+                "PUBLIC_ID first
+# a comment
+
+BBB ?",
+            ),
+            "EDTLOC 1 EVENTS 2 PASSED 2 1
+EVENT 1 PICKS 1 SKIPPED 0
+PICK AAA P 761523405000000 1000 -
+CERT FEW
+END
+EVENT 2 PICKS 1 SKIPPED 0
+PICK BBB P 761523406000000 1000 -
+CERT FEW
+END
+",
+        ),
+    ] {
+        expect_text(&rt, rt.alloc(), &[change], text)?;
+    }
+    Ok(())
 }
 
 #[test]
@@ -154,89 +203,147 @@ fn locates_no_event_of_more_than_256_used_picks(rt: HostRuntime) -> Result<(), F
     expect_text(&rt, alloc, &changes, text.as_str())
 }
 
-#[test]
-fn fits_no_node_to_picks_too_far_apart(rt: HostRuntime) -> Result<(), Fail> {
-    expect_text(
-        &rt,
-        rt.alloc(),
-        &[Swap("obs.txt", "46.0000", "56.0000")],
-        "EDTLOC 1 EVENTS 1 PASSED 2 0
-EVENT 1 PICKS 2 SKIPPED 0
-PICK AAA P 761523405000000 1000 -
-PICK BBB P 761523416000000 1000 -
-CERT NOFIT
-END
-",
-    )
-}
-
-#[test]
-fn numbers_the_blocks_of_events_and_counts_passed_lines(rt: HostRuntime) -> Result<(), Fail> {
-    let changes = [Swap(
-        "obs.txt",
-        "BBB ?",
-        "PUBLIC_ID first
-# a comment parts no events
-
-BBB ?",
-    )];
-    expect_text(
-        &rt,
-        rt.alloc(),
-        &changes,
-        "EDTLOC 1 EVENTS 2 PASSED 2 1
-EVENT 1 PICKS 1 SKIPPED 0
-PICK AAA P 761523405000000 1000 -
-CERT FEW
-END
-EVENT 2 PICKS 1 SKIPPED 0
-PICK BBB P 761523406000000 1000 -
-CERT FEW
-END
-",
-    )
-}
-
-// Locates with a P and an S pick of one station, whose grid has the P time of 1000001 microseconds at node 0 and, with the ratio 1.7321,
-// the S time of 1732102 there. The S pick comes at these seconds and time, and the first node has this score.
-fn expect_ratio(
-    rt: &impl Abort,
+// What a text has of a located event after its pick lines, where its first node is the best of the sample's four and no other is near: the
+// seconds of the origin, the root mean square, the score, and the bound of the last two nodes.
+fn located_lines(
     alloc: Global,
-    seconds: &str,
-    time: u64,
+    origin: &str,
+    rms: u64,
     score: u64,
-) -> Result<(), Fail> {
-    let pick = format!(in alloc; "AAA ? ? ? S U 19940217 2216 {seconds}")?;
-    let changes = [
-        Swap("e1.in", "2 -1 -1 -1 0", "2 -1 -1 1.7321 0"),
-        Swap(
-            "obs.txt",
-            "BBB ? ? ? P U 19940217 2216 46.0000",
-            pick.as_str(),
-        ),
-        Put(
-            "time/a.P.AAA.time.usec",
-            b"\x41\x42\x0f\x00\x80\x84\x1e\x00\xc0\xc6\x2d\x00\x00\x09\x3d\x00",
-        ),
-    ];
-    let text = format!(in alloc;
-        "EDTLOC 1 EVENTS 1 PASSED 2 0\nEVENT 1 PICKS 2 SKIPPED 0\nPICK AAA P 761523405000000 1000 -\nPICK AAA S {time} 1000 -\nCERT LOCATED\nBEST 0 {score}\nEND\n"
-    )?;
-    expect_text(rt, alloc, &changes, text.as_str())
+    last: u64,
+) -> Result<String, Fail> {
+    Ok(format!(in alloc;
+        "HYPOCENTRE 0 0 0 10000000 0 0\nORIGIN 1994-02-17 22:16:{origin}\nRMS {rms}\nMET 5\nCERT LOCATED\nBEST 0 {score}\nNEAR 1\n0 {score}\nCOVER 3\n0 1 0 1 0 1 {score}\n1 2 0 1 0 1 0\n2 4 0 1 0 1 {last}\nEND\n"
+    )?)
 }
 
 #[test]
 fn takes_the_times_of_s_from_those_of_p_by_the_ratio(rt: HostRuntime) -> Result<(), Fail> {
     let alloc = rt.alloc();
-    // The S time is 732101 microseconds past the P time. A misfit of 3124 is the last of the kernel's first step, and one of 3125 is of the
-    // second, on either side.
-    for (seconds, time, score) in [
-        ("45.728976", 761_523_405_728_976, 343_513_497_600),
-        ("45.728977", 761_523_405_728_977, 343_597_383_680),
-        ("45.735225", 761_523_405_735_225, 343_597_383_680),
-        ("45.735226", 761_523_405_735_226, 343_513_497_600),
+    // The grid has the P time of 1000001 microseconds at node 0 and, with the ratio 1.7321, the S time of 1732102 there: 732101 past the
+    // P time. A misfit of 3124 is the last of the kernel's first step, and one of 3125 is of the second, on either side.
+    for (seconds, first, second, origin, score, last) in [
+        (
+            "728976",
+            3125,
+            0,
+            "43.996874",
+            343_513_497_600,
+            1_517_813_760,
+        ),
+        (
+            "728977",
+            3124,
+            0,
+            "43.996875",
+            343_597_383_680,
+            1_517_813_760,
+        ),
+        (
+            "735225",
+            0,
+            3124,
+            "43.999999",
+            343_597_383_680,
+            1_754_398_720,
+        ),
+        (
+            "735226",
+            0,
+            3125,
+            "43.999999",
+            343_513_497_600,
+            1_754_398_720,
+        ),
     ] {
-        expect_ratio(&rt, alloc, seconds, time, score)?;
+        let pick = format!(in alloc; "AAA ? ? ? S U 19940217 2216 45.{seconds} GAU")?;
+        let changes = [
+            Swap("e1.in", "2 -1 -1 -1 0", "2 -1 -1 1.7321 0"),
+            Swap("obs.txt", SECOND_PICK, pick.as_str()),
+            Put(
+                "time/a.P.AAA.time.usec",
+                b"\x41\x42\x0f\x00\x80\x84\x1e\x00\xc0\xc6\x2d\x00\x00\x09\x3d\x00",
+            ),
+        ];
+        let lines = located_lines(alloc, origin, 2210, score, last)?;
+        let text = format!(in alloc;
+            "EDTLOC 1 EVENTS 1 PASSED 2 0\nEVENT 1 PICKS 2 SKIPPED 0\nPICK AAA P 761523405000000 1000 {first}\nPICK AAA S 761523405{seconds} 1000 {second}\n{lines}"
+        )?;
+        expect_text(&rt, alloc, &changes, text.as_str())?;
     }
     Ok(())
+}
+
+#[test]
+fn locates_with_each_kernel(rt: HostRuntime) -> Result<(), Fail> {
+    let alloc = rt.alloc();
+    expect_with_line(&rt, alloc, "EDTKERNEL TRIANGLE", "46.0000", "46.0", TEXT)?;
+    // Within one second nodes 0 and 1 fit as well, and within three seconds all four.
+    expect_with_line(
+        &rt,
+        alloc,
+        "EDTKERNEL COUNT 1.0",
+        "46.0000",
+        "46.0",
+        "EDTLOC 1 EVENTS 1 PASSED 2 0
+EVENT 1 PICKS 2 SKIPPED 0
+PICK AAA P 761523405000000 1000 0
+PICK BBB P 761523406000000 1000 0
+HYPOCENTRE 0 0 0 10000000 0 0
+ORIGIN 1994-02-17 22:16:44.000000
+RMS 0
+MET 5
+CERT LOCATED
+BEST 0 343597383680
+NEAR 2
+0 343597383680
+1 343597383680
+COVER 3
+0 1 0 1 0 1 343597383680
+1 2 0 1 0 1 343597383680
+2 4 0 1 0 1 0
+END
+",
+    )?;
+    expect_with_line(
+        &rt,
+        alloc,
+        "EDTKERNEL COUNT 3.0",
+        "46.0000",
+        "46.0",
+        "EDTLOC 1 EVENTS 1 PASSED 2 0
+EVENT 1 PICKS 2 SKIPPED 0
+PICK AAA P 761523405000000 1000 0
+PICK BBB P 761523406000000 1000 0
+HYPOCENTRE 0 0 0 10000000 0 0
+ORIGIN 1994-02-17 22:16:44.000000
+RMS 0
+MET 7
+CERT LOCATED
+BEST 0 343597383680
+NEAR 4
+0 343597383680
+1 343597383680
+2 343597383680
+3 343597383680
+COVER 4
+0 1 0 1 0 1 343597383680
+1 2 0 1 0 1 343597383680
+2 3 0 1 0 1 343597383680
+3 4 0 1 0 1 343597383680
+END
+",
+    )?;
+    let picks =
+        "EDTLOC 1 EVENTS 1 PASSED 2 0\nEVENT 1 PICKS 2 SKIPPED 0\nPICK AAA P 761523405000000 1000 0\nPICK BBB P 761523406100000 1000 100000\n";
+    let lines = located_lines(alloc, "44.000000", 70711, 343_597_383_680, 0)?;
+    let text = format!(in alloc; "{picks}{lines}")?;
+    expect_with_line(
+        &rt,
+        alloc,
+        "EDTKERNEL COUNT 1.0",
+        "46.0000",
+        "46.1000",
+        text.as_str(),
+    )
 }

@@ -5,7 +5,7 @@ use Rattle.run_input.specs.Inputs.{input_of, input_value}
 use Rattle.edt_top.specs.Locate.Text.{locate_parts}
 use Rattle.edt_top.specs.RunEndings.{locate_ending}
 use Rattle.edt_top.specs.Runs.{IsLocateText}
-use Rattle.edt_top.proofs.LocateLaws.InputSteps.{input_refused, input_written, input_cut}
+use Rattle.edt_top.proofs.LocateLaws.InputSteps.{input_covers, input_refused, input_written, input_cut}
 use Rattle.edt_top.proofs.StatusLaws.{told_all, refused_written, all_written, fault_written, write_untold}
 use Rattle.edt_top.proofs.locate.locate.Goals as goal
 
@@ -44,7 +44,7 @@ returns-in_err-write_text-clause-parts g c =
     let out = err_from_is_err_and c.from_residual-in_err-write_text.result c.from_residual-in_err-write_text.ensures.1 in
     rw (out.1, out.2) (
     fault_written IsLocateText (locate_parts (input_value c.in_ok-input.input)) c.in_err-write_text.field-0.0 (Appends (g.O.Sink.taken c.args.out.now) (g.O.Sink.taken c.write_text.new.out))
-    (input_value c.in_ok-input.input, refl) c.in_err-write_text.ensures.told)
+    (input_value c.in_ok-input.input, refl, c.in_err-write_text.ensures.covers) c.in_err-write_text.ensures.told)
 
 pub returns-clause-written : goal.returns-clause-written
 returns-clause-written g c =
@@ -54,4 +54,8 @@ returns-clause-written g c =
 pub returns-clause-parts : goal.returns-clause-parts
 returns-clause-parts g c =
     all_written IsLocateText (locate_parts (input_value c.in_ok-input.input)) (Appends (g.O.Sink.taken c.args.out.now) (g.O.Sink.taken c.write_text.new.out))
-    (input_value c.in_ok-input.input, refl) c.in_ok-write_text.ensures.told
+    (input_value c.in_ok-input.input, refl, c.in_ok-write_text.ensures.covers) c.in_ok-write_text.ensures.told
+
+pub returns-clause-covers : goal.returns-clause-covers
+returns-clause-covers g c =
+    input_covers (g.S.Shelf.files c.args.shelf.now) c.args.name.now c.in_ok-input.input c.in_ok-input.ensures.told c.in_ok-write_text.ensures.covers

@@ -30,6 +30,7 @@ built words head empty field problem is picks sound made filled whole =
     record {
       whole = whole;
       some = is.some_node;
+      few = is.nodes;
       field = made_of;
       picks = picks;
       valid = subst (λ f. IsValidProblem f problem) (sym made_of) (valid words problem picks sound is.some is.few);
