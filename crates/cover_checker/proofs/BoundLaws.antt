@@ -98,3 +98,6 @@ corner_only g b node single held =
 pub corner_score : (s : Scoring) → AreBounds s → (b : BoxBound) → IsIn s.grid b.area → is_single b.area ≡ true → s.bound b.area ≡ s.score (corner s.grid b)
 corner_score s bounds b inside single =
     bounds.single b.area (corner s.grid b) inside (corner_below s.grid b inside) (corner_held s.grid b inside) single
+
+pub node_box_one : (g : GridSize) (node : ℕ) → node < node_count g → length (box_nodes g (node_box g node)) ≡ 1
+node_box_one g node below = ap length (single_nodes g (node_box g node) node (node_box_inside g node below) below (node_box_holds g node) (node_box_single g node))

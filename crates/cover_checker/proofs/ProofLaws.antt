@@ -24,12 +24,12 @@ use Rattle.cover_checker.proofs.CoverLaws.{all-at, holder, holders_times}
 use Rattle.cover_checker.proofs.Tests.{any-contains}
 
 -- the box that holds a node of a cover
-record IsBoxOf (s : Scoring) (boxes : List BoxBound) (node : ℕ) : Type 0 where
-  b : BoxBound
-  at : Contains boxes b
-  held : holds s.grid b.area node ≡ true
-  inside : IsIn s.grid b.area
-  bound : b.bound ≡ s.bound b.area
+pub record IsBoxOf (s : Scoring) (boxes : List BoxBound) (node : ℕ) : Type 0 where
+  pub b : BoxBound
+  pub at : Contains boxes b
+  pub held : holds s.grid b.area node ≡ true
+  pub inside : IsIn s.grid b.area
+  pub bound : b.bound ≡ s.bound b.area
 
 pub box_of_node : (s : Scoring) (boxes : List BoxBound) → IsCover s boxes → (node : ℕ) → node < node_count s.grid → IsBoxOf s boxes node
 box_of_node s boxes cover node below =
@@ -79,8 +79,8 @@ module _ (s : Scoring) (bounds : AreBounds s) (margin : ℕ) (event : LocatedVal
       let box = box_of_node s event.boxes p.cover node below in
       elim (cases_Bool (is_single box.b.area)) [
         | inl single ↦
-            let no = all-at (λ b. is_single b.area ≡ true → IsNoBetter s event b) event.boxes box.b p.first box.at single in
-            omega (arith, no.at_most, ap s.score (corner_only s.grid box.b node single box.held))
+            let better = all-at (λ b. is_single b.area ≡ true → IsNoBetter s event b) event.boxes box.b p.first box.at single in
+            omega (arith, better.at_most, ap s.score (corner_only s.grid box.b node single box.held))
         | inr several ↦
             let shut = all-at (λ b. is_single b.area ≡ false → b.bound < threshold_of margin event.score) event.boxes box.b p.closed box.at several in
             omega (arith, shut, low, under s event.boxes bounds node below box)
@@ -91,9 +91,9 @@ module _ (s : Scoring) (bounds : AreBounds s) (margin : ℕ) (event : LocatedVal
       let below : node < node_count s.grid = omega (arith, p.hyp) in
       let box = box_of_node s event.boxes p.cover node below in
       let single = alone_at node below (omega (arith, low, same)) box in
-      let no = all-at (λ b. is_single b.area ≡ true → IsNoBetter s event b) event.boxes box.b p.first box.at single in
+      let better = all-at (λ b. is_single b.area ≡ true → IsNoBetter s event b) event.boxes box.b p.first box.at single in
       let is = corner_only s.grid box.b node single box.held in
-      let after = no.later (ap s.score (sym is) ∙ same) in
+      let after = better.later (ap s.score (sym is) ∙ same) in
       absurd (omega (arith, after, is))
 
   pub first_best : IsFirstBest (node_count s.grid) s.score event.hyp
@@ -102,9 +102,9 @@ module _ (s : Scoring) (bounds : AreBounds s) (margin : ℕ) (event : LocatedVal
     best = λ other below. omega (arith, at_most other below, p.score);
     first = λ other before. elim (cases_lt (s.score other) (s.score event.hyp)) [
       | inl less ↦ less
-      | inr no ↦
+      | inr equal ↦
           let below : other < node_count s.grid = omega (arith, p.hyp) in
-          absurd (not_before other before (omega (arith, no, at_most other below, p.score)))
+          absurd (not_before other before (omega (arith, equal, at_most other below, p.score)))
     ];
   }
 
@@ -122,7 +122,7 @@ module _ (s : Scoring) (bounds : AreBounds s) (margin : ℕ) (event : LocatedVal
   ]
 
   pub near_all : event.near ≡ near_nodes (node_count s.grid) s.score (threshold_of margin (best_score (node_count s.grid) s.score))
-  unfolding near_of, near_nodes
+  unfolding near_of near_nodes
   near_all =
       let best : event.score ≡ best_score (node_count s.grid) s.score = sym p.score ∙ sym (best_score-is (node_count s.grid) s.score event.hyp first_best) in
       p.near
@@ -140,9 +140,9 @@ true_of s margin (IsLocated event) bounds valid p = record {
   near = near_all s bounds margin event valid.scored p;
 }
 true_of s margin (FitsNowhere boxes) bounds valid p = λ node below.
-let box = box_of_node s boxes p.cover node below in
-let none = all-at (λ b. b.bound ≡ 0) boxes box.b p.zero box.at in
-omega (arith, none, under s boxes bounds node below box)
+    let box = box_of_node s boxes p.cover node below in
+    let none = all-at (λ b. b.bound ≡ 0) boxes box.b p.zero box.at in
+    omega (arith, none, under s boxes bounds node below box)
 true_of s margin HasFew bounds valid p = absurd p
 true_of s margin HasMany bounds valid p = absurd p
 true_of s margin PassesBudget bounds valid p = absurd p

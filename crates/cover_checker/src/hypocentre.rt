@@ -57,6 +57,7 @@ fn single_box(grid: &Grid, node: u32) -> NodeBox
     requires { node < node_count grid.now }
     ensures { result ≡ node_box grid.now node }
 {
+    let _nodes = grid.nodes();
     let (x, y, z) = grid.place(node);
     NodeBox {
         x0: x,

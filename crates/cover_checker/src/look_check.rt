@@ -145,6 +145,7 @@ fn check_located<F: Fn(u64, u64) -> u64, L: Look>(
     if let Some(verdict) = first_better(case.grid, event) {
         return verdict;
     }
+    let _nodes = case.grid.nodes();
     if let Some(verdict) = near_fault(&event.near, &event.cover, least, marks) {
         return verdict;
     }
