@@ -21,5 +21,6 @@ mod writing;
 
 pub use block::{Block, BlockCause, BlockFault, LocatedBlock, MOST_BOXES, MOST_NEAR};
 pub use laws::{block_law, fault_law};
+pub use line_words::{LineWords, is_plain};
 pub use reading::read_block;
 pub use writing::write_block;
