@@ -9,10 +9,10 @@ use Rattle.std.proofs.lemmas.List.Sums.{sum_by-cons}
 use Rattle.kernel_table.specs.declared.kernels.Shape.{Shape}
 use Rattle.kernel_table.specs.Kernel.{kernel_value}
 use Rattle.edt_score.specs.declared.problem.ProblemPick.{ProblemPick}
-use Rattle.edt_score.specs.PairTerms.{PairTerms}
-use Rattle.edt_score.specs.Bound.{bound_by, excess, gap_of, pair_bound}
-use Rattle.edt_score.specs.Inside.Ends.{IsNear, IsTimeSpan, end_of, ends_gap, ends_of, ends_value, ends_within, row_total, table_total}
-use Rattle.edt_score.specs.Inside.Pairs.{pair_count, pairs_of, terms_of}
+use Rattle.edt_score.specs.PairTerms.{PairTerms, pairs_of, terms_of}
+use Rattle.edt_score.specs.Bound.{IsTimeSpan, bound_by, excess, gap_of, pair_bound}
+use Rattle.edt_score.specs.Inside.Ends.{IsNear, end_of, ends_gap, ends_of, ends_value, ends_within, row_total, table_total}
+use Rattle.edt_score.specs.Inside.Pairs.{pair_count}
 
 pub length-pairs_of : (picks : List ProblemPick) → length (pairs_of picks) ≡ pair_count (length picks)
 length-pairs_of [] = refl

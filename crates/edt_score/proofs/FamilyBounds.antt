@@ -17,10 +17,12 @@ use Rattle.minmax_pyramid.specs.Spans.{span_over}
 use Rattle.edt_score.specs.BoxBound.{box_bound, box_spans}
 use Rattle.edt_score.specs.Field.{FieldTimes, IsField, time_at}
 use Rattle.edt_score.specs.Inside.Domination.{greatest-found, least-below}
-use Rattle.edt_score.specs.Inside.Ends.{IsNear, IsTimeSpan, ends_of, ends_within, table_total}
+use Rattle.edt_score.specs.Bound.{IsTimeSpan}
+use Rattle.edt_score.specs.Inside.Ends.{IsNear, ends_of, ends_within, table_total}
 use Rattle.edt_score.specs.Inside.Families.{AreEnds, AreFamilyEnds, AreRowSpans, no_pick}
 use Rattle.edt_score.specs.Inside.Lanes.{lane}
-use Rattle.edt_score.specs.Inside.Pairs.{IsReadable, pairs_of}
+use Rattle.edt_score.specs.Inside.Pairs.{IsReadable}
+use Rattle.edt_score.specs.PairTerms.{pairs_of}
 use Rattle.edt_score.specs.Inside.UsedRows.{AreRowsOf, rows_of}
 use Rattle.edt_score.proofs.EndTotals.{table_total-bound}
 use Rattle.edt_score.proofs.Readable.{time_at-limit}

@@ -4,6 +4,7 @@ pub mod FamilyBounds
 pub mod FamilyEnds
 pub mod KeptFamilies
 pub mod LaneTotals
+pub mod NumberedPicks
 pub mod Readable
 pub mod RowSpans
 pub mod RowTotals

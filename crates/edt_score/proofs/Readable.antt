@@ -19,7 +19,7 @@ near_itself : (a : ℤ) (n : ℕ) → unsigned_abs (a -ℤ a) ≤ n
 near_itself a n = omega (arith, ints)
 
 -- each pick is near the first
-near_first : (picks : List ProblemPick) (first : ProblemPick) → AllPairs AreNear picks → (k : ℕ) (d : ProblemPick) → k < length picks
+pub near_first : (picks : List ProblemPick) (first : ProblemPick) → AllPairs AreNear picks → (k : ℕ) (d : ProblemPick) → k < length picks
     → unsigned_abs ((get_or picks k d).time -ℤ (get_or picks 0 first).time) ≤ 2200000000000
 near_first picks first near zero d below =
     rw (get_or_default picks 0 d first below) (near_itself (get_or picks 0 first).time 2200000000000)

@@ -1,6 +1,6 @@
 -- What any of a list of nodes can be worth at most, by the least and the greatest travel times to
 -- them.
-use Rattle.std.specs.Prelude.{ℕ, ℤ, List, ◌*◌, ◌-ℤ◌, ◌<◌, pos, negsuc, max, length, Contains}
+use Rattle.std.specs.Prelude.{ℕ, ℤ, List, ◌*◌, ◌-ℤ◌, ◌<◌, ◌≤◌, pos, negsuc, max, length, Contains}
 use Rattle.kernel_table.specs.declared.kernels.Shape.{Shape}
 use Rattle.kernel_table.specs.Kernel.{kernel_value}
 use Rattle.pair_weights.specs.Weight.{weight_of}
@@ -12,6 +12,11 @@ use Rattle.edt_score.specs.Score.{pair_scale, pair_sum}
 abbrev pub excess : ℤ → ℕ
 excess (pos n) = n
 excess (negsuc n) = 0
+
+-- a span in order, of times that fit 32 bits
+pub record IsTimeSpan (span : ℕ × ℕ) : Type 0 where
+  pub order : span.0 ≤ span.1
+  pub limit : span.1 ≤ 4294967295
 
 -- the least misfit of a pair with the observed times `oa` and `ob` that travel times within the spans
 -- allow

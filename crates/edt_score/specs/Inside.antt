@@ -5,5 +5,6 @@ pub mod Ends
 pub mod Families
 pub mod KeptFamily
 pub mod Lanes
+pub mod LookLimit
 pub mod Pairs
 pub mod UsedRows

@@ -22,4 +22,6 @@ pub mod Bound
 pub mod BoxBound
 pub mod Judging
 pub mod PyramidJudge
+pub mod Look
+pub mod KeptPairs
 pub mod Inside

@@ -1,5 +1,5 @@
 -- The picks of one event.
-use Rattle.std.specs.Prelude.{◌≤◌, ◌<◌, ◌*◌, ◌^◌, ◌-ℤ◌, All, length, unsigned_abs}
+use Rattle.std.specs.Prelude.{List, ◌≤◌, ◌<◌, ◌*◌, ◌^◌, ◌-ℤ◌, All, length, unsigned_abs}
 use Rattle.std.specs.List.{AllPairs}
 use Rattle.edt_score.specs.declared.problem.ProblemPick.{ProblemPick}
 use Rattle.edt_score.specs.declared.problem.Problem.{Problem}
@@ -22,3 +22,16 @@ pub record IsValidProblem (field : FieldTimes) (problem : Problem) : Type 0 wher
   pub few : length problem.picks.items ≤ 256
   pub picks : All (IsValidPick field) problem.picks.items
   pub times : AllPairs AreNear problem.picks.items
+
+-- a pick with a weight and a variance within their limits
+pub record IsSoundPick (pick : ProblemPick) : Type 0 where
+  pub some_weight : 1 ≤ pick.weight
+  pub weight : pick.weight ≤ 2000
+  pub variance : pick.variance ≤ 2 * 10 ^ 16
+
+-- 2 to 256 such picks, any two of them near: those of a problem that is valid but for its rows
+pub record AreSoundPicks (picks : List ProblemPick) : Type 0 where
+  pub two : 2 ≤ length picks
+  pub few : length picks ≤ 256
+  pub each : All IsSoundPick picks
+  pub times : AllPairs AreNear picks

@@ -8,6 +8,7 @@ ghost use Rattle.edt_score.specs.declared.problem.ProblemPick.{ProblemPick};
 ghost use Rattle.edt_score.specs.BoxBound.{box_bound};
 ghost use Rattle.edt_score.specs.Field.{FieldTimes, time_at};
 ghost use Rattle.edt_score.specs.Judging.{BoundsFall, node_box};
+ghost use Rattle.edt_score.specs.Look.{numbered, pick_time};
 ghost use Rattle.edt_score.specs.Problem.{IsValidProblem};
 ghost use Rattle.edt_score.specs.Score.{misfit_of, pair_scale, score_of, variance_at};
 ghost use Rattle.edt_score.specs.Bound.{IsPart, bound_over};
@@ -61,5 +62,16 @@ pub fn box_bound_law()
     ensures node { (shape : Shape) (field : FieldTimes) (picks : List ProblemPick) (node : ℕ)
         → node < node_count field.grid
         → box_bound shape field picks (node_box field.grid node)
+        ≡ score_of shape (time_at field) picks node }
+{}
+
+/// The bound and the score of picks by the times that a look-up tells for each pick are those by the
+/// times of the picks' rows.
+pub fn numbered_law()
+    ensures bound { (shape : Shape) (field : FieldTimes) (picks : List ProblemPick)
+        (nodes : List ℕ) → bound_over shape (pick_time field picks) (numbered picks) nodes
+        ≡ bound_over shape (time_at field) picks nodes }
+    ensures score { (shape : Shape) (field : FieldTimes) (picks : List ProblemPick) (node : ℕ)
+        → score_of shape (pick_time field picks) (numbered picks) node
         ≡ score_of shape (time_at field) picks node }
 {}

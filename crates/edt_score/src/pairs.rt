@@ -1,5 +1,6 @@
 ghost use Rattle.std.specs.Prelude.{◌≡◌, ◌++◌, ◌≤◌, All, IfOk, OnOk, length, map};
-ghost use Rattle.edt_score.specs.Inside.Pairs.{IsPairable, pairs_of, terms_of};
+ghost use Rattle.edt_score.specs.Inside.Pairs.{IsPairable};
+ghost use Rattle.edt_score.specs.PairTerms.{pairs_of, terms_of};
 
 use crate::problem::ProblemPick;
 use kernel_table::reciprocal;
@@ -30,8 +31,17 @@ impl Model for Pair {
 }
 
 impl Pair {
+    /// A pair that is worth nothing, as room for pairs that are written later.
+    pub(crate) fn nothing() -> Pair {
+        Pair {
+            reciprocal: reciprocal(1000),
+            end: 4000,
+            weight: 0,
+        }
+    }
+
     /// The pair of two picks.
-    fn of(first: &ProblemPick, other: &ProblemPick) -> Pair
+    pub(crate) fn of(first: &ProblemPick, other: &ProblemPick) -> Pair
         requires first { IsPairable first.now }
         requires other { IsPairable other.now }
         ensures { result ≡ terms_of first.now other.now }

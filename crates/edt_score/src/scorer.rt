@@ -8,7 +8,8 @@ ghost use Rattle.edt_score.specs.Inside.Ends.{table_total};
 ghost use Rattle.edt_score.specs.Inside.KeptFamily.{AreBounds};
 ghost use Rattle.edt_score.specs.Inside.Lanes.{EachIs, lane_total};
 ghost use Rattle.edt_score.specs.Inside.UsedRows.{AreRowsOf};
-ghost use Rattle.edt_score.specs.Inside.Pairs.{pair_count, pairs_of};
+ghost use Rattle.edt_score.specs.Inside.Pairs.{pair_count};
+ghost use Rattle.edt_score.specs.PairTerms.{pairs_of};
 
 use crate::ends::{Ends, fill_box, fill_points};
 use crate::family::fill_family;
@@ -16,7 +17,7 @@ use crate::field::Field;
 use crate::lanes::table_totals;
 use crate::pairs::{Pair, collect_pairs};
 use crate::problem::Problem;
-use crate::totals::table_total;
+use crate::totals::falloff_total;
 use crate::used_rows::UsedRows;
 use crate::values::ByReciprocal;
 use kernel_table::{Falloff, Shape};
@@ -93,7 +94,7 @@ impl<'a, F: Fn(u64, u64) -> u64> Scorer<'a, F> {
         self.total(ends)
     }
 
-    /// What all pairs of ends are worth. Which kernel it is is asked once.
+    /// What all pairs of ends are worth.
     fn total(&self, ends: &[Ends]) -> u64
         requires few { length ends.now ≤ 256 }
         requires lengths { length self.now.pairs.items ≡ pair_count (length ends.now) }
@@ -102,10 +103,7 @@ impl<'a, F: Fn(u64, u64) -> u64> Scorer<'a, F> {
             result ≡ table_total shape ends.now self.now.pairs.items }
         ensures bound { result ≤ length self.now.pairs.items * 274877906944000 }
     {
-        match self.falloff.shape() {
-            Shape::Gauss => table_total(&ByReciprocal, ends, &self.pairs),
-            _ => table_total(self.falloff, ends, &self.pairs),
-        }
+        falloff_total(self.falloff, ends, &self.pairs)
     }
 
     /// Writes the bounds of all boxes of a family. Takes no memory.

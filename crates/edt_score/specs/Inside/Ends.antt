@@ -4,6 +4,7 @@ use Rattle.kernel_table.specs.declared.kernels.Shape.{Shape}
 use Rattle.kernel_table.specs.Kernel.{kernel_value}
 use Rattle.edt_score.specs.declared.problem.ProblemPick.{ProblemPick}
 use Rattle.edt_score.specs.declared.ends.Ends.{Ends}
+use Rattle.edt_score.specs.Bound.{IsTimeSpan}
 use Rattle.edt_score.specs.PairTerms.{PairTerms}
 
 -- an observed time less a travel time, counted from `start` and lifted so that it isn't negative
@@ -42,11 +43,6 @@ abbrev pub table_total : Shape → List Ends → List PairTerms → ℕ
 table_total shape [] pairs = 0
 table_total shape (first ∷ others) pairs =
     row_total shape first others pairs + table_total shape others (drop (length others) pairs)
-
--- a span in order, of times that fit 32 bits
-pub record IsTimeSpan (span : ℕ × ℕ) : Type 0 where
-  pub order : span.0 ≤ span.1
-  pub limit : span.1 ≤ 4294967295
 
 -- a pick whose time is near the start, with a span in order
 pub record IsNear (start : ℤ) (spans : ℕ → ℕ × ℕ) (pick : ProblemPick) : Type 0 where

@@ -1,5 +1,6 @@
 use Rattle.std.proofs.Common.{◌≡◌, ◌++◌, All, length}
-use Rattle.edt_score.specs.Inside.Pairs.{IsPairable, pairs_of}
+use Rattle.edt_score.specs.Inside.Pairs.{IsPairable}
+use Rattle.edt_score.specs.PairTerms.{pairs_of}
 use Rattle.edt_score.proofs.pairs.collect_pairs.Given as goal
 
 abbrev pub invariant-loop-first : goal.invariant-loop-first

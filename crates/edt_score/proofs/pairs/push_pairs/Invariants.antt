@@ -1,5 +1,5 @@
 use Rattle.std.proofs.Common.{◌≡◌, ◌++◌, map, take}
-use Rattle.edt_score.specs.Inside.Pairs.{terms_of}
+use Rattle.edt_score.specs.PairTerms.{terms_of}
 use Rattle.edt_score.proofs.pairs.push_pairs.Given as goal
 
 abbrev pub invariant-loop-other : goal.invariant-loop-other

@@ -1,0 +1,37 @@
+//! What the verdicts mean.
+
+ghost use Rattle.std.specs.Prelude.{◌≡◌, ◌↔◌, ℕ, List};
+ghost use Rattle.kernel_table.specs.declared.kernels.Shape.{Shape};
+ghost use Rattle.node_boxes.specs.declared.node_box.NodeBox.{NodeBox};
+ghost use Rattle.node_boxes.specs.Grid.{GridSize, node_count};
+ghost use Rattle.edt_score.specs.declared.problem.ProblemPick.{ProblemPick};
+ghost use Rattle.edt_score.specs.Judging.{judged_score};
+ghost use Rattle.octree_search.specs.Near.{near_list};
+ghost use Rattle.cover_certificate.specs.Blocks.{BlockValue, IsValidBlock};
+ghost use Rattle.cover_checker.specs.declared.verdict.Verdict.TheVariants.{Proved};
+ghost use Rattle.cover_checker.specs.Bounding.{AreBounds};
+ghost use Rattle.cover_checker.specs.Locations.{IsTrueOf, near_nodes};
+ghost use Rattle.cover_checker.specs.Proving.{Proves};
+ghost use Rattle.cover_checker.specs.Scorings.{Scoring, scoring_of};
+ghost use Rattle.cover_checker.specs.Verdicts.{verdict_of};
+
+/// The bounds of boxes by picks and travel times are at least the scores of their nodes, whatever the
+/// boxes, and with such bounds a verdict is `Proved` exactly where the certificate proves its event.
+pub fn verdict_law()
+    ensures bounds { (shape : Shape) (g : GridSize) (times : ℕ → ℕ → ℕ) (picks : List ProblemPick)
+        → AreBounds (scoring_of shape g times picks) }
+    ensures exactly { (s : Scoring) (margin : ℕ) (block : BlockValue) → AreBounds s
+        → (verdict_of s margin block ≡ Proved) ↔ Proves s margin block }
+{}
+
+/// A certificate that proves its event is true of all nodes.
+pub fn proof_law()
+    ensures { (s : Scoring) (margin : ℕ) (block : BlockValue) → AreBounds s → IsValidBlock block
+        → Proves s margin block → IsTrueOf (node_count s.grid) s.score margin block }
+{}
+
+/// The near nodes are those that a search lists.
+pub fn near_law()
+    ensures { (g : GridSize) (bound : NodeBox → ℕ) (least : ℕ)
+        → near_nodes (node_count g) (judged_score g bound) least ≡ near_list g bound least }
+{}
