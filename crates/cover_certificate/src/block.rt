@@ -1,4 +1,7 @@
 //! What a certificate says, and why one isn't read.
+ghost use Rattle.std.specs.Prelude.{◌≡◌};
+ghost use Rattle.cover_certificate.specs.Blocks.{block_value, view_value};
+
 use node_boxes::BoxBound;
 use thiserror::Error;
 
@@ -25,6 +28,27 @@ pub enum Block {
     NearLimit,
 }
 
+impl Block {
+    /// The block with its lists borrowed.
+    pub fn view(&self) -> BlockView<'_>
+        ensures { view_value result ≡ block_value self.now }
+    {
+        match self {
+            Block::Located(event) => BlockView::Located(LocatedView {
+                hyp: event.hyp,
+                score: event.score,
+                near: &event.near,
+                cover: &event.cover,
+            }),
+            Block::NoFit(cover) => BlockView::NoFit(cover),
+            Block::Few => BlockView::Few,
+            Block::Many => BlockView::Many,
+            Block::Budget => BlockView::Budget,
+            Block::NearLimit => BlockView::NearLimit,
+        }
+    }
+}
+
 /// What a certificate says of a located event.
 #[derive(Drop)]
 pub struct LocatedBlock {
@@ -36,6 +60,36 @@ pub struct LocatedBlock {
     pub near: Vec<(u32, u64)>,
     /// The boxes of the cover, each with a bound on its scores: at most `MOST_BOXES` in a valid block.
     pub cover: Vec<BoxBound>,
+}
+
+/// A block whose lists are borrowed, for writing one without copying them.
+#[derive(Clone, Copy)]
+pub enum BlockView<'a> {
+    /// The event is located.
+    Located(LocatedView<'a>),
+    /// No node scores: the boxes of a cover, each with a bound on its scores.
+    NoFit(&'a [BoxBound]),
+    /// Too few picks are used.
+    Few,
+    /// Too many picks are used.
+    Many,
+    /// More boxes would be met than the budget allows.
+    Budget,
+    /// Too many nodes score near the best.
+    NearLimit,
+}
+
+/// What a certificate says of a located event, with borrowed lists.
+#[derive(Clone, Copy)]
+pub struct LocatedView<'a> {
+    /// The node of the hypocentre.
+    pub hyp: u32,
+    /// Its score.
+    pub score: u64,
+    /// The near nodes, each with its score.
+    pub near: &'a [(u32, u64)],
+    /// The boxes of the cover, each with a bound on its scores.
+    pub cover: &'a [BoxBound],
 }
 
 /// What is wrong with a line of a certificate, in the order in which the causes of one line come.

@@ -19,8 +19,10 @@ mod tests;
 mod text_size;
 mod writing;
 
-pub use block::{Block, BlockCause, BlockFault, LocatedBlock, MOST_BOXES, MOST_NEAR};
+pub use block::{
+    Block, BlockCause, BlockFault, BlockView, LocatedBlock, LocatedView, MOST_BOXES, MOST_NEAR,
+};
 pub use laws::{block_law, fault_law};
 pub use line_words::{LineWords, is_plain};
 pub use reading::read_block;
-pub use writing::write_block;
+pub use writing::{reserve_block, write_block, write_view};

@@ -1,20 +1,20 @@
 //! How many bytes the text of a block has, so that its buffer is made once.
 ghost use Rattle.std.specs.Prelude.{◌≤◌};
 
-use crate::block::Block;
+use crate::block::BlockView;
 use node_boxes::BoxBound;
 
 // Room for the lines that are neither of a near node nor of a box.
 const FRAME: usize = 128;
 
 /// How many bytes to reserve for the text of a block: a few more than it has.
-pub(crate) fn block_size(block: &Block) -> usize {
+pub(crate) fn block_size(block: &BlockView) -> usize {
     match block {
-        Block::Located(event) => FRAME
-            .saturating_add(near_size(&event.near))
-            .saturating_add(cover_size(&event.cover)),
-        Block::NoFit(cover) => FRAME.saturating_add(cover_size(cover)),
-        Block::Few | Block::Many | Block::Budget | Block::NearLimit => FRAME,
+        BlockView::Located(event) => FRAME
+            .saturating_add(near_size(event.near))
+            .saturating_add(cover_size(event.cover)),
+        BlockView::NoFit(cover) => FRAME.saturating_add(cover_size(cover)),
+        BlockView::Few | BlockView::Many | BlockView::Budget | BlockView::NearLimit => FRAME,
     }
 }
 

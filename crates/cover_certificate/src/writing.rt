@@ -2,13 +2,13 @@
 ghost use Rattle.std.specs.Prelude.{◌≡◌, ◌++◌, [], ◌∷◌, map, OnOk, OnErr};
 ghost use Rattle.std.specs.List.{flat_map};
 ghost use Rattle.cover_certificate.specs.declared.line_form.LineForm.TheVariants.{Entry, Area};
-ghost use Rattle.cover_certificate.specs.Blocks.{block_value, located_value};
+ghost use Rattle.cover_certificate.specs.Blocks.{block_value, located_view_value, view_value};
 ghost use Rattle.cover_certificate.specs.BlockLines.{block_text, body_lines, box_numbers, cover_lines, ended_line};
 ghost use Rattle.cover_certificate.specs.BlockLines.{entry_numbers, located_lines, near_lines, numbers_line};
 ghost use Rattle.cover_certificate.specs.BlockLines.{kind_of_block, spaced, text_of_lines};
 ghost use Rattle.cover_certificate.specs.Inside.Keeping.{Keeps};
 
-use crate::block::{Block, LocatedBlock};
+use crate::block::{Block, BlockView, LocatedView};
 use crate::kind::Kind;
 use crate::line_form::LineForm;
 use crate::text_size::block_size;
@@ -24,8 +24,26 @@ pub fn write_block(out: &mut Vec<u8>, block: &Block) -> Result<(), AllocError>
     ensures ok { OnOk result (out.new.items ≡ out.old.items ++ block_text (block_value block.now)) }
     ensures err { OnErr result (out.new.items ≡ out.old.items) }
 {
+    let view = block.view();
+    reserve_block(out, 0, &view)?;
+    write_view(out, &view)
+}
+
+/// Makes room in `out` for so many bytes and then the text of a block, and changes nothing else. Want
+/// of memory is the only refusal.
+pub fn reserve_block(out: &mut Vec<u8>, before: usize, block: &BlockView) -> Result<(), AllocError>
+    ensures { out.new.items ≡ out.old.items }
+{
+    out.reserve(block_size(block).saturating_add(before))
+}
+
+/// Appends the text of a block whose lists are borrowed, as `write_block` does, and makes no room
+/// before: `reserve_block` does. For want of memory `out` stays unchanged.
+pub fn write_view(out: &mut Vec<u8>, block: &BlockView) -> Result<(), AllocError>
+    ensures ok { OnOk result (out.new.items ≡ out.old.items ++ block_text (view_value block.now)) }
+    ensures err { OnErr result (out.new.items ≡ out.old.items) }
+{
     let start = out.len();
-    out.reserve(block_size(block))?;
     let written = push_block(out, block);
     if written.is_err() {
         out.truncate(start);
@@ -35,8 +53,8 @@ pub fn write_block(out: &mut Vec<u8>, block: &Block) -> Result<(), AllocError>
 
 // Appends the text of a block.
 #[tactic(auto, unfolding(crate::specs::BlockLines::block_text))]
-fn push_block(out: &mut Vec<u8>, block: &Block) -> Result<(), AllocError>
-    ensures ok { OnOk result (out.new.items ≡ out.old.items ++ block_text (block_value block.now)) }
+fn push_block(out: &mut Vec<u8>, block: &BlockView) -> Result<(), AllocError>
+    ensures ok { OnOk result (out.new.items ≡ out.old.items ++ block_text (view_value block.now)) }
     ensures kept { Keeps out.old.items out.new.items }
 {
     push_line(out, kind_of(block).first_line())?;
@@ -45,41 +63,41 @@ fn push_block(out: &mut Vec<u8>, block: &Block) -> Result<(), AllocError>
 }
 
 // The kind of a block.
-fn kind_of(block: &Block) -> Kind
-    ensures { result ≡ kind_of_block (block_value block.now) }
+fn kind_of(block: &BlockView) -> Kind
+    ensures { result ≡ kind_of_block (view_value block.now) }
 {
     match block {
-        Block::Located(_) => Kind::Located,
-        Block::NoFit(_) => Kind::NoFit,
-        Block::Few => Kind::Few,
-        Block::Many => Kind::Many,
-        Block::Budget => Kind::Budget,
-        Block::NearLimit => Kind::NearLimit,
+        BlockView::Located(_) => Kind::Located,
+        BlockView::NoFit(_) => Kind::NoFit,
+        BlockView::Few => Kind::Few,
+        BlockView::Many => Kind::Many,
+        BlockView::Budget => Kind::Budget,
+        BlockView::NearLimit => Kind::NearLimit,
     }
 }
 
 // Appends what stands between the first line and the last.
-fn push_body(out: &mut Vec<u8>, block: &Block) -> Result<(), AllocError>
+fn push_body(out: &mut Vec<u8>, block: &BlockView) -> Result<(), AllocError>
     ensures ok { OnOk result (out.new.items ≡ out.old.items
-        ++ text_of_lines (body_lines (block_value block.now))) }
+        ++ text_of_lines (body_lines (view_value block.now))) }
     ensures kept { Keeps out.old.items out.new.items }
 {
     match block {
-        Block::Located(event) => push_located(out, event),
-        Block::NoFit(cover) => push_cover(out, cover),
-        Block::Few | Block::Many | Block::Budget | Block::NearLimit => Ok(()),
+        BlockView::Located(event) => push_located(out, event),
+        BlockView::NoFit(cover) => push_cover(out, cover),
+        BlockView::Few | BlockView::Many | BlockView::Budget | BlockView::NearLimit => Ok(()),
     }
 }
 
 // Appends what a certificate says of a located event.
-fn push_located(out: &mut Vec<u8>, event: &LocatedBlock) -> Result<(), AllocError>
+fn push_located(out: &mut Vec<u8>, event: &LocatedView) -> Result<(), AllocError>
     ensures ok { OnOk result (out.new.items ≡ out.old.items
-        ++ text_of_lines (located_lines (located_value event.now))) }
+        ++ text_of_lines (located_lines (located_view_value event.now))) }
     ensures kept { Keeps out.old.items out.new.items }
 {
     push_numbers(out, LineForm::Best, &[u64::from(event.hyp), event.score])?;
-    push_near(out, &event.near)?;
-    push_cover(out, &event.cover)
+    push_near(out, event.near)?;
+    push_cover(out, event.cover)
 }
 
 // Appends the near nodes, after their count.

@@ -1,2 +1,6 @@
+pub mod Dates
 pub mod Lines
 pub mod Blocks
+pub mod Texts
+pub mod Reports
+pub mod Inside

@@ -1,9 +1,18 @@
 //! The lines of a block, appended to a text.
-ghost use Rattle.std.specs.Prelude.{◌≡◌, ◌++◌, OnOk};
-ghost use Rattle.std.specs.List.{flat_map};
-ghost use Rattle.location_report.specs.Lines.{event_line, pick_line, skip_line, best_line, reason_name};
+ghost use Rattle.std.specs.Prelude.{◌≡◌, ◌++◌, ◌<◌, [], ◌∷◌, OnOk, codes, decimal};
+ghost use Rattle.std.specs.Fmt.{signed_decimal};
+ghost use Rattle.std.specs.List.{flat_map, join_with_byte};
+ghost use Rattle.cover_certificate.specs.BlockLines.{text_of_lines};
+ghost use Rattle.node_boxes.specs.Frame.{IsOrigin, IsSpacing, IsValidFrame};
+ghost use Rattle.node_boxes.specs.Grid.{node_count};
+ghost use Rattle.location_report.specs.Lines.{coordinate, event_line, hypocentre_line, lanes_line, met_line, origin_line, pick_line, place_line, reason_name, rms_line, skip_line};
+ghost use Rattle.location_report.specs.Reports.{lane_values};
 
+use crate::dates::{push_clock, push_date};
+use crate::lanes::LaneCount;
+use edt_text::push_signed;
 use itoa::Buffer;
+use node_boxes::Frame;
 use station_table::{Reason, Skip, UsedPick};
 use std::alloc::AllocError;
 
@@ -15,7 +24,7 @@ pub(crate) fn push_event(
     used: usize,
     skipped: usize,
 ) -> Result<(), AllocError>
-    ensures { OnOk result (out.new.items ≡ out.old.items ++ event_line number used skipped) }
+    ensures { OnOk result (out.new.items ≡ out.old.items ++ text_of_lines (event_line number used skipped ∷ [])) }
 {
     let mut numbers = (Buffer::new(), Buffer::new(), Buffer::new());
     push_pieces(
@@ -32,10 +41,15 @@ pub(crate) fn push_event(
     )
 }
 
-/// Appends a used pick.
+/// Appends a used pick with the word of its residual.
 #[tactic(auto, unfolding(crate::specs::Lines::pick_line))]
-pub(crate) fn push_pick(out: &mut Vec<u8>, pick: &UsedPick) -> Result<(), AllocError>
-    ensures { OnOk result (out.new.items ≡ out.old.items ++ pick_line pick.now) }
+pub(crate) fn push_pick(
+    out: &mut Vec<u8>,
+    pick: &UsedPick,
+    residual: &[u8],
+) -> Result<(), AllocError>
+    ensures { OnOk result (out.new.items
+        ≡ out.old.items ++ text_of_lines (pick_line (pick.now, residual.now) ∷ [])) }
 {
     let mut time = Buffer::new();
     let mut weight = Buffer::new();
@@ -50,7 +64,9 @@ pub(crate) fn push_pick(out: &mut Vec<u8>, pick: &UsedPick) -> Result<(), AllocE
             time.format(pick.time).as_bytes(),
             b" ",
             weight.format(pick.weight).as_bytes(),
-            b" -\n",
+            b" ",
+            residual,
+            b"\n",
         ],
     )
 }
@@ -58,7 +74,7 @@ pub(crate) fn push_pick(out: &mut Vec<u8>, pick: &UsedPick) -> Result<(), AllocE
 /// Appends a pick that isn't used.
 #[tactic(auto, unfolding(crate::specs::Lines::skip_line))]
 pub(crate) fn push_skip(out: &mut Vec<u8>, skip: &Skip) -> Result<(), AllocError>
-    ensures { OnOk result (out.new.items ≡ out.old.items ++ skip_line skip.now) }
+    ensures { OnOk result (out.new.items ≡ out.old.items ++ text_of_lines (skip_line skip.now ∷ [])) }
 {
     let mut line = Buffer::new();
     push_pieces(
@@ -77,22 +93,127 @@ pub(crate) fn push_skip(out: &mut Vec<u8>, skip: &Skip) -> Result<(), AllocError
     )
 }
 
-/// Appends the node of the hypocentre and its score.
-#[tactic(auto, unfolding(crate::specs::Lines::best_line))]
-pub(crate) fn push_best(out: &mut Vec<u8>, node: u32, score: u64) -> Result<(), AllocError>
-    ensures { OnOk result (out.new.items ≡ out.old.items ++ best_line node score) }
+/// Appends the place of the hypocentre on the axes, and where it lies in millimetres.
+pub(crate) fn push_hypocentre(
+    out: &mut Vec<u8>,
+    frame: &Frame,
+    node: u32,
+) -> Result<(), AllocError>
+    requires frame { IsValidFrame frame.now }
+    requires node { node < node_count frame.now.grid }
+    ensures { OnOk result (out.new.items ≡ out.old.items ++ text_of_lines (hypocentre_line frame.now node ∷ [])) }
 {
-    let mut numbers = (Buffer::new(), Buffer::new());
+    let place = frame.grid.place(node);
+    let x = coordinate(frame.ox, frame.dx, place.0);
+    let y = coordinate(frame.oy, frame.dy, place.1);
+    let z = coordinate(frame.oz, frame.dz, place.2);
+    push_place(out, place, x, y, z)
+}
+
+// Appends a place on the axes, and where it lies.
+#[tactic(auto, unfolding(crate::specs::Lines::place_line))]
+fn push_place(
+    out: &mut Vec<u8>,
+    place: (u32, u32, u32),
+    x: i64,
+    y: i64,
+    z: i64,
+) -> Result<(), AllocError>
+    ensures { OnOk result (out.new.items ≡ out.old.items ++ text_of_lines (place_line place x y z ∷ [])) }
+{
+    push_node(out, place)?;
+    push_way(out, x)?;
+    push_way(out, y)?;
+    push_way(out, z)?;
+    out.push(b'\n')?;
+    Ok(())
+}
+
+// Appends the first words of the line of a hypocentre: its place on the axes.
+fn push_node(out: &mut Vec<u8>, place: (u32, u32, u32)) -> Result<(), AllocError>
+    ensures { OnOk result (out.new.items ≡ out.old.items ++ join_with_byte 32
+        (codes "HYPOCENTRE" ∷ decimal place.0 ∷ decimal place.1 ∷ decimal place.2 ∷ [])) }
+{
+    let mut numbers = (Buffer::new(), Buffer::new(), Buffer::new());
     push_pieces(
         out,
         &[
-            b"BEST ",
-            numbers.0.format(node).as_bytes(),
+            b"HYPOCENTRE ",
+            numbers.0.format(place.0).as_bytes(),
             b" ",
-            numbers.1.format(score).as_bytes(),
+            numbers.1.format(place.1).as_bytes(),
+            b" ",
+            numbers.2.format(place.2).as_bytes(),
+        ],
+    )
+}
+
+// Appends a blank and a number.
+fn push_way(out: &mut Vec<u8>, way: i64) -> Result<(), AllocError>
+    ensures { OnOk result (out.new.items ≡ out.old.items ++ 32 ∷ signed_decimal way) }
+{
+    out.push(b' ')?;
+    push_signed(out, way)
+}
+
+/// Appends the origin time, which is given in microseconds from the start of 1970-01-01, as a date and a time of day.
+#[tactic(auto, unfolding(crate::specs::Lines::origin_line))]
+pub(crate) fn push_origin(out: &mut Vec<u8>, time: i64) -> Result<(), AllocError>
+    ensures { OnOk result (out.new.items ≡ out.old.items ++ text_of_lines (origin_line time ∷ [])) }
+{
+    out.extend_from_slice(b"ORIGIN ")?;
+    push_date(out, time)?;
+    out.push(b' ')?;
+    push_clock(out, time)?;
+    out.push(b'\n')?;
+    Ok(())
+}
+
+/// Appends the root mean square of the residuals.
+#[tactic(auto, unfolding(crate::specs::Lines::rms_line))]
+pub(crate) fn push_rms(out: &mut Vec<u8>, rms: u64) -> Result<(), AllocError>
+    ensures { OnOk result (out.new.items ≡ out.old.items ++ text_of_lines (rms_line rms ∷ [])) }
+{
+    let mut number = Buffer::new();
+    push_pieces(out, &[b"RMS ", number.format(rms).as_bytes(), b"\n"])
+}
+
+/// Appends how many boxes were met.
+#[tactic(auto, unfolding(crate::specs::Lines::met_line))]
+pub(crate) fn push_met(out: &mut Vec<u8>, met: u32) -> Result<(), AllocError>
+    ensures { OnOk result (out.new.items ≡ out.old.items ++ text_of_lines (met_line met ∷ [])) }
+{
+    let mut number = Buffer::new();
+    push_pieces(out, &[b"MET ", number.format(met).as_bytes(), b"\n"])
+}
+
+/// Appends what the lanes did.
+#[tactic(auto, unfolding(crate::specs::Lines::lanes_line))]
+pub(crate) fn push_lanes(out: &mut Vec<u8>, count: LaneCount) -> Result<(), AllocError>
+    ensures { OnOk result (out.new.items ≡ out.old.items ++ text_of_lines (lanes_line (lane_values count) ∷ [])) }
+{
+    let mut numbers = (Buffer::new(), Buffer::new(), Buffer::new());
+    push_pieces(
+        out,
+        &[
+            b"LANES ",
+            numbers.0.format(count.lanes).as_bytes(),
+            b" EVENTS ",
+            numbers.1.format(count.events).as_bytes(),
+            b" LOST ",
+            numbers.2.format(count.lost).as_bytes(),
             b"\n",
         ],
     )
+}
+
+// Where a place on an axis lies, in millimetres.
+fn coordinate(origin: i64, spacing: i64, place: u32) -> i64
+    requires origin { IsOrigin origin }
+    requires spacing { IsSpacing spacing }
+    ensures { result ≡ coordinate origin spacing place }
+{
+    origin + i64::from(place) * spacing
 }
 
 // The name of a reason.

@@ -1,3 +1,4 @@
 pub mod Medians
 pub mod Uniqueness
 pub mod Roots
+pub mod Functions

@@ -1,0 +1,4 @@
+pub mod DateLaws
+pub mod ListLaws
+pub mod LocatingLaws
+pub mod BlockLaws

@@ -1,0 +1,3 @@
+-- Words for the crate's own parts, on which no public clause rests.
+pub mod Locating
+pub mod CivilDays
