@@ -1,69 +1,21 @@
--- The block that lines tell, by which the lines of a block are those of it alone.
-use Rattle.std.proofs.Common.{◌≡◌, ℕ, ◌+◌, ◌≤◌, true, List, [], ◌∷◌, ◌++◌, length, take, drop, map, Option, Some, None, refl, sym, ◌∙◌, ap, arith, append_assoc}
-use Rattle.std.specs.Prelude.{codes, slice_get, slice_index}
+-- The lines of a block tell it, so they are those of it alone.
+use Rattle.std.proofs.Common.{◌≡◌, ℕ, ◌+◌, ◌≤◌, true, List, [], ◌∷◌, ◌++◌, length, take, drop, map, Some, refl, sym, ◌∙◌, ap, arith, append_assoc}
+use Rattle.std.specs.Prelude.{codes, slice_index}
 use Rattle.std.specs.List.{list_all}
 use Rattle.std.proofs.lemmas.List.{length-map}
 use Rattle.text_terms.specs.Lines.{LineText}
 use Rattle.node_boxes.specs.declared.node_box.BoxBound.{BoxBound}
-use Rattle.cover_certificate.specs.declared.kind.Kind.{Kind}
-use Rattle.cover_certificate.specs.declared.kind.Kind.TheVariants.{Located, NoFit, Few, Many, Budget, NearLimit}
 use Rattle.cover_certificate.specs.declared.line_form.LineForm.{LineForm}
 use Rattle.cover_certificate.specs.declared.line_form.LineForm.TheVariants.{Best, Near, Entry, Cover, Area}
 use Rattle.cover_certificate.specs.Blocks.{BlockValue, LocatedValue, IsLocated, FitsNowhere, HasFew, HasMany, PassesBudget, PassesNearLimit, IsValidBlock, IsValidLocated}
 use Rattle.cover_certificate.specs.LineForms.{are_allowed, slots_of}
 use Rattle.cover_certificate.specs.LineFaults.{numbers_in}
 use Rattle.cover_certificate.specs.BlockLines.{AreTypedBoxes, AreTypedNear, IsTypedBlock, IsTypedLocated, block_lines, body_lines, box_numbers, counted_lines, cover_lines, ended_line, entry_numbers, kind_of_block, located_lines, near_lines, numbers_line}
-use Rattle.cover_certificate.specs.BlockFaults.{count_in, kind_told}
+use Rattle.cover_certificate.specs.BlocksTold.{block_in, body_in, box_of, boxes_in, entry_of, items_in, located_in, near_in}
 use Rattle.cover_certificate.proofs.PartLaws.{both}
 use Rattle.cover_certificate.proofs.LineLaws.{kind_of-first_bytes, line_again}
 use Rattle.cover_certificate.proofs.CountedLaws.{box_count, count_told, near_count}
 use Rattle.cover_certificate.proofs.BlockLaws.{best_allowed, drop_lines}
-
--- the numbers of a line that may be missing
-abbrev numbers_at : LineForm → Option LineText → List ℕ
-numbers_at form None = []
-numbers_at form (Some line) = numbers_in form line.bytes
-
--- the items of a counted list
-abbrev items_in : LineForm → LineForm → List LineText → List (List ℕ)
-items_in count item lines = map (λ (line : LineText). numbers_in item line.bytes) (take (count_in count (slice_get lines 0)) (drop 1 lines))
-
-abbrev entry_of : List ℕ → ℕ × ℕ
-entry_of numbers = (slice_index numbers 0, slice_index numbers 1)
-
-abbrev box_of : List ℕ → BoxBound
-box_of n = record {
-  area = record { x0 = slice_index n 0; x1 = slice_index n 1; y0 = slice_index n 2; y1 = slice_index n 3; z0 = slice_index n 4; z1 = slice_index n 5 };
-  bound = slice_index n 6;
-}
-
-abbrev near_in : List LineText → List (ℕ × ℕ)
-near_in lines = map entry_of (items_in Near Entry lines)
-
-abbrev boxes_in : List LineText → List BoxBound
-boxes_in lines = map box_of (items_in Cover Area lines)
-
--- the located event that lines tell
-abbrev located_in : List LineText → LocatedValue
-located_in lines = record {
-  hyp = slice_index (numbers_at Best (slice_get lines 0)) 0;
-  score = slice_index (numbers_at Best (slice_get lines 0)) 1;
-  near = near_in (drop 1 lines);
-  boxes = boxes_in (drop (1 + length (near_in (drop 1 lines))) (drop 1 lines));
-}
-
-abbrev body_in : Option Kind → List LineText → BlockValue
-body_in (Some Located) lines = IsLocated (located_in lines)
-body_in (Some NoFit) lines = FitsNowhere (boxes_in lines)
-body_in (Some Few) lines = HasFew
-body_in (Some Many) lines = HasMany
-body_in (Some Budget) lines = PassesBudget
-body_in (Some NearLimit) lines = PassesNearLimit
-body_in None lines = HasFew
-
--- the block that lines tell
-block_in : List LineText → BlockValue
-block_in lines = body_in (kind_told (slice_get lines 0)) (drop 1 lines)
 
 -- the numbers of lines of items
 lines_back : (item : LineForm) (items : List (List ℕ)) (rest : List LineText) → list_all (are_allowed (slots_of item)) items ≡ true
@@ -135,7 +87,7 @@ body_back PassesBudget rest valid typed = refl
 body_back PassesNearLimit rest valid typed = refl
 
 -- the lines of a block tell it, whatever follows
-block_back : (block : BlockValue) (rest : List LineText) → IsValidBlock block → IsTypedBlock block → block_in (block_lines block ++ rest) ≡ block
+pub block_back : (block : BlockValue) (rest : List LineText) → IsValidBlock block → IsTypedBlock block → block_in (block_lines block ++ rest) ≡ block
 unfolding block_in
 block_back block rest valid typed =
     ap (λ told. body_in told ((body_lines block ++ ended_line (codes "END") ∷ []) ++ rest)) (kind_of-first_bytes (kind_of_block block))

@@ -5,4 +5,5 @@ pub mod LineWords
 pub mod BlockLines
 pub mod LineFaults
 pub mod BlockFaults
+pub mod BlocksTold
 pub mod Inside

@@ -6,14 +6,17 @@ ghost use Rattle.cover_certificate.specs.declared.block.BlockCause.{BlockCause};
 ghost use Rattle.cover_certificate.specs.Blocks.{BlockValue, IsValidBlock};
 ghost use Rattle.cover_certificate.specs.BlockLines.{IsTypedBlock, block_lines, block_text};
 ghost use Rattle.cover_certificate.specs.BlockFaults.{IsBlockFault, fault_at};
+ghost use Rattle.cover_certificate.specs.BlocksTold.{block_in};
 
 /// The lines of a block's text are the block's, whatever follows it, and none of them is faulty, so it
-/// is read again. A text is that of one block alone.
+/// is read again. The lines tell the block, so a text is that of one block alone.
 pub fn block_law()
     ensures lines { (block : BlockValue) (rest : List ℕ) → IsValidBlock block → IsTypedBlock block
         → lines_of (block_text block ++ rest) ≡ block_lines block ++ lines_of rest }
     ensures again { (block : BlockValue) (rest : List LineText) → IsValidBlock block → IsTypedBlock block
         → HasNoFault (fault_at (block_lines block ++ rest)) (length (block_lines block ++ rest)) }
+    ensures tell { (block : BlockValue) (rest : List LineText) → IsValidBlock block → IsTypedBlock block
+        → block_in (block_lines block ++ rest) ≡ block }
     ensures once { (block other : BlockValue) (rest more : List LineText) → IsValidBlock block → IsTypedBlock block
         → IsValidBlock other → IsTypedBlock other → block_lines block ++ rest ≡ block_lines other ++ more
         → (block ≡ other) × (rest ≡ more) }

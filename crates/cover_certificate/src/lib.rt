@@ -23,5 +23,6 @@ pub use block::{
     Block, BlockCause, BlockFault, BlockView, LocatedBlock, LocatedView, MOST_BOXES, MOST_NEAR,
 };
 pub use laws::{block_law, fault_law};
+pub use line_words::{LineWords, is_plain};
 pub use reading::read_block;
 pub use writing::{reserve_block, write_block, write_view};

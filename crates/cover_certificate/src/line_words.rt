@@ -11,7 +11,7 @@ use std::marker::Model;
 
 /// A cursor over the parts of a line that its blanks (byte 32) make. It takes no memory.
 #[derive(Drop)]
-pub(crate) struct LineWords<'a> {
+pub struct LineWords<'a> {
     rest: Option<&'a [u8]>,
 }
 
@@ -26,14 +26,14 @@ impl<'a> Model for LineWords<'a> {
 
 impl<'a> LineWords<'a> {
     /// Stands before the first part.
-    pub(crate) fn new(bytes: &'a [u8]) -> LineWords<'a>
+    pub fn new(bytes: &'a [u8]) -> LineWords<'a>
         ensures { result ≡ parts bytes.now }
     {
         LineWords { rest: Some(bytes) }
     }
 
     /// The next part from left to right, or `None` where none is left.
-    pub(crate) fn next(&mut self) -> Option<&'a [u8]>
+    pub fn next(&mut self) -> Option<&'a [u8]>
         ensures { MatchOption result ((self.old ≡ []) × (self.new ≡ []))
             (λ word. self.old ≡ word.now ∷ self.new) }
     {
@@ -60,7 +60,7 @@ fn first_part(bytes: &[u8]) -> (&[u8], Option<&[u8]>)
 }
 
 /// Whether a part is a word: it has a byte, and none that parts words elsewhere.
-pub(crate) fn is_plain(word: &[u8]) -> bool
+pub fn is_plain(word: &[u8]) -> bool
     ensures { result ≡ line_words.is_plain word.now }
 {
     !word.is_empty() && has_no_blank(word)

@@ -1,0 +1,3 @@
+pub mod WordSteps
+pub mod CertificateSteps
+pub mod SectionSteps

@@ -1,0 +1,2 @@
+-- Words for the parts of this crate, which no public clause cites.
+pub mod Cursors
