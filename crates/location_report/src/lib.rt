@@ -15,3 +15,6 @@ mod room;
 
 pub use lanes::LaneCount;
 pub use reporting::report;
+
+#[cfg(test)]
+mod tests;
