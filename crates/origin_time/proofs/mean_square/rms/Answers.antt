@@ -1,6 +1,5 @@
-use Rattle.std.proofs.Common.{◌≡◌, ◌+◌, ◌*◌, ◌^◌, ◌≤◌, ◌<◌, refl, sym, arith, take, get_or, pos}
+use Rattle.std.proofs.Common.{◌≡◌, ◌^◌, refl, sym, arith, take, get_or, pos}
 use Rattle.std.specs.Int.{div_ceil}
-use Rattle.std.proofs.Math.Nat.{mul-le-mul_left}
 use Rattle.std.proofs.lemmas.List.Sums.{sum_by_more}
 use Rattle.std.proofs.lemmas.List.{take_all}
 use Rattle.origin_time.specs.RootMeanSquare.{weighted_square, total_square}
