@@ -8,12 +8,14 @@
 mod dates;
 mod found;
 mod lanes;
+mod laws;
 mod lines;
 mod locating;
 mod reporting;
 mod room;
 
 pub use lanes::LaneCount;
+pub use laws::report_law;
 pub use reporting::report;
 
 #[cfg(test)]
