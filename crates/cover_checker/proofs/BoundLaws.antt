@@ -1,10 +1,10 @@
 -- The bounds of boxes and the scores of their nodes.
-use Rattle.std.proofs.Common.{◌≡◌, inl, inr, ℕ, zero, suc, ◌+◌, ◌-◌, ◌*◌, ◌<◌, ◌≤◌, ◌&&◌, arith, refl, ap, sym, subst, ◌∙◌, Bool, true, false, List, [], ◌∷◌, length, Contains}
+use Rattle.std.proofs.Common.{◌≡◌, ℕ, zero, suc, ◌-◌, ◌*◌, ◌<◌, arith, refl, ap, sym, ◌∙◌, true, List, [], ◌∷◌, length, Contains}
 use Rattle.std.proofs.lemmas.Bool.Decides.{nat_tests}
 use Rattle.kernel_table.specs.declared.kernels.Shape.{Shape}
 use Rattle.node_boxes.specs.declared.node_box.NodeBox.{NodeBox}
 use Rattle.node_boxes.specs.declared.node_box.BoxBound.{BoxBound}
-use Rattle.node_boxes.specs.Boxes.{IsIn, contains, holds, is_single, node_count_of}
+use Rattle.node_boxes.specs.Boxes.{IsIn, contains, holds, is_single}
 use Rattle.node_boxes.specs.BoxNodes.{box_nodes}
 use Rattle.node_boxes.specs.Grid.{GridSize, node_count}
 use Rattle.node_boxes.specs.GridOrder.{IsInside, node_number, place_of}

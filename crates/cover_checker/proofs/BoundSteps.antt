@@ -1,5 +1,5 @@
 -- Spans over the nodes of a box, and the bound that comes of them.
-use Rattle.std.proofs.Common.{◌≡◌, inl, inr, ℕ, zero, suc, ◌+◌, ◌*◌, ◌<◌, ◌≤◌, ◌^◌, arith, refl, ap, sym, subst, ◌∙◌, List, [], ◌∷◌, length, get_or, set, map, min, max, sum_by, take, All}
+use Rattle.std.proofs.Common.{◌≡◌, inl, inr, ℕ, ◌+◌, ◌*◌, ◌<◌, ◌≤◌, ◌^◌, arith, refl, ap, sym, subst, ◌∙◌, List, [], ◌∷◌, length, set, map, min, max, sum_by}
 use Rattle.std.proofs.Math.Nat.{mul-le-mul_right}
 use Rattle.std.proofs.lemmas.Bool.{cases_lt}
 use Rattle.std.proofs.lemmas.Grind.{get_or-set_at}
@@ -85,7 +85,7 @@ module _ (shape : Shape) (one other : ℕ → ℕ × ℕ) where
       let a : ProblemPick = record pick { row = place } in
       let row = row-agrees a (one place) (place + 1) picks (λ j low high. same j (omega arith) (omega arith)) in
       let first : sum_by (λ b. pair_bound shape a b (one place) (other b.row)) (numbered_from (place + 1) picks)
-          ≡ sum_by (λ b. pair_bound shape a b (other place) (other b.row)) (numbered_from (place + 1) picks) =
+      ≡ sum_by (λ b. pair_bound shape a b (other place) (other b.row)) (numbered_from (place + 1) picks) =
       ap (λ s. sum_by (λ b. pair_bound shape a b s (other b.row)) (numbered_from (place + 1) picks)) (same place (omega arith) (omega arith)) in
       let rest = bound-agrees (place + 1) picks (λ j low high. same j (omega arith) (omega arith)) in
       omega (arith, row, first, rest)

@@ -1,9 +1,9 @@
 -- A verdict is `Proved` exactly where the certificate proves its event.
-use Rattle.std.proofs.Common.{◌≡◌, inl, inr, ℕ, zero, suc, ◌+◌, ◌<◌, ◌≤◌, ◌==◌, ◌&&◌, ◌||◌, arith, refl, ap, sym, subst, ◌∙◌, Bool, true, false, cond, not, List, [], ◌∷◌, length, get_or, take, All, Contains, Option, None, Some}
+use Rattle.std.proofs.Common.{◌≡◌, inl, inr, ℕ, ◌+◌, ◌<◌, ◌==◌, ◌&&◌, arith, refl, ap, sym, ◌∙◌, Bool, true, false, cond, List, [], ◌∷◌, get_or, take, All, Option, None, Some}
 use Rattle.std.specs.List.{enumerate_from, find}
 use Rattle.std.specs.Option.{option_or}
 use Rattle.std.specs.Prelude.{nat_lt, option_map}
-use Rattle.std.proofs.lemmas.Bool.{and_cases, and_from, and_left, and_parts, and_right, cases_Bool, cond-false, cond-true, eq-eqb, eqb-true, false_from_ne_true, lt-ltb, ltb-false, ltb-true, or_from, or_parts}
+use Rattle.std.proofs.lemmas.Bool.{and_cases, and_from, and_left, and_parts, and_right, cases_Bool, cond-true, eq-eqb, eqb-true, false_from_ne_true, lt-ltb, ltb-false, ltb-true, or_from, or_parts}
 use Rattle.std.proofs.lemmas.List.Elements.{Contains-get_or}
 use Rattle.cover_certificate.specs.Blocks.{BlockValue, FitsNowhere, HasFew, HasMany, IsLocated, LocatedValue, PassesBudget, PassesNearLimit}
 use Rattle.node_boxes.specs.declared.node_box.BoxBound.{BoxBound}
@@ -15,7 +15,7 @@ use Rattle.cover_checker.specs.declared.verdict.Verdict.{Verdict}
 use Rattle.cover_checker.specs.declared.verdict.Verdict.TheVariants.{NearWrong, NoClaim, NotClosed, NotFirst, Outside, Proved, Twice, Uncovered, WrongBound, WrongScore}
 use Rattle.cover_checker.specs.Covers.{first_of, is_held, is_in, misplaced, placing_fault, uncovered}
 use Rattle.cover_checker.specs.Findings.{corner, first_difference, is_better, near_of, near_wrong, not_closed, not_first, not_zero, same_entry, wrong_bound, wrong_score}
-use Rattle.cover_checker.specs.Proving.{IsCover, IsNoBetter, Proves, ProvesLocated, ProvesNoFit}
+use Rattle.cover_checker.specs.Proving.{IsNoBetter, Proves, ProvesLocated, ProvesNoFit}
 use Rattle.cover_checker.specs.Scorings.{Scoring}
 use Rattle.cover_checker.specs.Verdicts.{first_found, verdict_of}
 use Rattle.cover_checker.proofs.CoverLaws.{find-fails, map-none}
@@ -118,7 +118,7 @@ module _ (s : Scoring) (event : LocatedValue) where
   unfolding wrong_score
   score_right none =
       let both = and_parts (nat_lt event.hyp (node_count s.grid)) (s.score event.hyp == event.score)
-          (when-none (nat_lt event.hyp (node_count s.grid) && (s.score event.hyp == event.score)) (WrongScore event.hyp) none) in
+      (when-none (nat_lt event.hyp (node_count s.grid) && (s.score event.hyp == event.score)) (WrongScore event.hyp) none) in
       (ltb-true event.hyp (node_count s.grid) both.0, eqb-true (s.score event.hyp) event.score both.1)
 
   right_score : event.hyp < node_count s.grid → s.score event.hyp ≡ event.score → wrong_score s event ≡ None
@@ -144,12 +144,12 @@ module _ (s : Scoring) (event : LocatedValue) where
   better_not b none =
       let node = corner s.grid b in
       let low : nat_lt event.score (s.score node) ≡ false = false_from_ne_true (nat_lt event.score (s.score node))
-          (λ above. absurd (omega (arith, ltb-true event.score (s.score node) above, none.at_most))) in
+      (λ above. absurd (omega (arith, ltb-true event.score (s.score node) above, none.at_most))) in
       let late : ((s.score node == event.score) && nat_lt node event.hyp) ≡ false =
-          false_from_ne_true ((s.score node == event.score) && nat_lt node event.hyp)
-          (λ hit.
-          let both = and_parts (s.score node == event.score) (nat_lt node event.hyp) hit in
-          absurd (omega (arith, none.later (eqb-true (s.score node) event.score both.0), ltb-true node event.hyp both.1))) in
+      false_from_ne_true ((s.score node == event.score) && nat_lt node event.hyp)
+      (λ hit.
+      let both = and_parts (s.score node == event.score) (nat_lt node event.hyp) hit in
+      absurd (omega (arith, none.later (eqb-true (s.score node) event.score both.0), ltb-true node event.hyp both.1))) in
       or_from (nat_lt event.score (s.score node)) ((s.score node == event.score) && nat_lt node event.hyp) low late
 
   first_right : not_first s event ≡ None → All (λ b. is_single b.area ≡ true → IsNoBetter s event b) event.boxes
@@ -157,12 +157,12 @@ module _ (s : Scoring) (event : LocatedValue) where
   first_right none =
       let missed = map-none (λ b. NotFirst (corner s.grid b)) (find (λ b. is_single b.area && is_better s event (corner s.grid b)) event.boxes) none in
       λ k d below single.
-          let b = get_or event.boxes k d in
-          let fails = find-none (λ c. is_single c.area && is_better s event (corner s.grid c)) event.boxes b missed (Contains-get_or event.boxes k d below) in
-          elim (and_cases (is_single b.area) (is_better s event (corner s.grid b)) fails) [
-            | inl several ↦ absurd (let bad : true ≡ false = sym single ∙ several in cc)
-            | inr miss ↦ not_better b miss
-          ]
+      let b = get_or event.boxes k d in
+      let fails = find-none (λ c. is_single c.area && is_better s event (corner s.grid c)) event.boxes b missed (Contains-get_or event.boxes k d below) in
+      elim (and_cases (is_single b.area) (is_better s event (corner s.grid b)) fails) [
+        | inl several ↦ absurd (let bad : true ≡ false = sym single ∙ several in cc)
+        | inr miss ↦ not_better b miss
+      ]
 
   right_first : All (λ b. is_single b.area ≡ true → IsNoBetter s event b) event.boxes → not_first s event ≡ None
   unfolding not_first

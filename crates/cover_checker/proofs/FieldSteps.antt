@@ -7,7 +7,7 @@ use Rattle.node_boxes.specs.BoxNodes.{box_nodes}
 use Rattle.node_boxes.specs.Grid.{GridSize}
 use Rattle.edt_score.specs.declared.problem.ProblemPick.{ProblemPick}
 use Rattle.edt_score.specs.Bound.{bound_over}
-use Rattle.edt_score.specs.Field.{FieldTimes, time_at}
+use Rattle.edt_score.specs.Field.{FieldTimes}
 use Rattle.edt_score.specs.Look.{numbered, pick_time}
 use Rattle.edt_score.proofs.NumberedPicks.{bound_over-numbered, score_of-numbered}
 use Rattle.cover_certificate.specs.Blocks.{BlockValue}

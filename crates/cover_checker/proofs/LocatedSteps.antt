@@ -1,31 +1,29 @@
 -- How the findings of the passes become the verdict over a certificate.
-use Rattle.std.proofs.Common.{◌≡◌, inl, inr, ℕ, zero, suc, ◌+◌, ◌-◌, ◌<◌, ◌≤◌, ◌==◌, ◌&&◌, ◌||◌, arith, refl, ap, sym, subst, ◌∙◌, Bool, true, false, cond, not, List, [], ◌∷◌, length, get_or, map, filter, All, Contains, Option, None, Some}
-use Rattle.std.specs.List.{cons_option, enumerate_from, filter_map, find, list_any, range_with_len}
-use Rattle.std.specs.Option.{option_and_then, option_or}
+use Rattle.std.proofs.Common.{◌≡◌, inl, inr, ℕ, suc, ◌+◌, ◌-◌, ◌<◌, ◌==◌, ◌&&◌, arith, refl, ap, sym, subst, ◌∙◌, Bool, true, false, cond, List, [], ◌∷◌, length, get_or, map, filter, Contains, Option, None, Some}
+use Rattle.std.specs.List.{cons_option, enumerate_from, filter_map, find, range_with_len}
+use Rattle.std.specs.Option.{option_and_then}
 use Rattle.std.specs.Prelude.{nat_le, option_map, slice_get}
 use Rattle.std.proofs.lemmas.Bool.{and_from, and_right, cases_Bool, cond-false, cond-true, lt-leb}
 use Rattle.node_boxes.specs.declared.node_box.BoxBound.{BoxBound}
 use Rattle.node_boxes.specs.Boxes.{IsIn, holds, is_single}
-use Rattle.node_boxes.specs.Grid.{GridSize, node_count}
-use Rattle.node_boxes.specs.GridOrder.{all_nodes}
+use Rattle.node_boxes.specs.Grid.{node_count}
 use Rattle.node_boxes.proofs.Lists.{first_or_rest}
-use Rattle.cover_certificate.specs.Blocks.{BlockValue, FitsNowhere, IsLocated, LocatedValue}
+use Rattle.cover_certificate.specs.Blocks.{FitsNowhere, IsLocated, LocatedValue}
 use Rattle.octree_search.specs.Cover.{threshold_of}
 use Rattle.cover_checker.specs.declared.verdict.Verdict.{Verdict}
 use Rattle.cover_checker.specs.declared.verdict.Verdict.TheVariants.{NearWrong, NotFirst, Proved}
 use Rattle.cover_checker.specs.Bounding.{AreBounds}
 use Rattle.cover_checker.specs.Covers.{misplaced, uncovered}
 use Rattle.cover_checker.specs.Findings.{corner, first_difference, is_alone, is_better, near_of, near_wrong, not_closed, not_first, not_zero, with_score, wrong_bound, wrong_score}
-use Rattle.cover_checker.specs.Proving.{IsCover}
 use Rattle.cover_checker.specs.Scorings.{Scoring}
 use Rattle.cover_checker.specs.Verdicts.{first_found, verdict_of}
 use Rattle.cover_checker.specs.Inside.Marking.{IsMarked, mark_from}
-use Rattle.cover_checker.specs.Inside.Walks.{beats, cover_finding, first_beating, is_near_box, near_bound, near_box_bound, near_entry, near_walk}
+use Rattle.cover_checker.specs.Inside.Walks.{beats, cover_finding, first_beating, near_box_bound, near_entry, near_walk}
 use Rattle.cover_checker.proofs.BoundLaws.{corner_score}
 use Rattle.cover_checker.proofs.CoverLaws.{all-at}
 use Rattle.cover_checker.proofs.NearSteps.{mark_find}
 use Rattle.cover_checker.proofs.PassLaws.{closed_low, cover_is}
-use Rattle.cover_checker.proofs.ProofLaws.{IsBoxOf, box_of_node}
+use Rattle.cover_checker.proofs.ProofLaws.{box_of_node}
 use Rattle.cover_checker.proofs.Tests.{any-contains, find-same}
 use Rattle.cover_checker.proofs.VerdictSteps.{finding_none, finding_some, findings_none, findings_some, is_beating}
 
@@ -66,12 +64,12 @@ finds test [] x (k, below, is) passes = absurd (omega arith)
 finds test (y ∷ ys) x at passes = elim (cases_Bool (test y)) [
   | inl hit ↦ record { item = y; is = cond-true (test y) (Some y) (find test ys) hit; at = (0, omega arith, refl); passes = hit }
   | inr miss ↦ elim (first_or_rest y ys x at) [
-      | inl same ↦ absurd (let bad : true ≡ false = sym passes ∙ ap test (sym same) ∙ miss in cc)
-      | inr after ↦
-          let rest = finds test ys x after passes in
-          let place = rest.at in
-          record { item = rest.item; is = cond-false (test y) (Some y) (find test ys) miss ∙ rest.is; at = (suc place.0, omega (arith, place.1), place.2); passes = rest.passes }
-    ]
+    | inl same ↦ absurd (let bad : true ≡ false = sym passes ∙ ap test (sym same) ∙ miss in cc)
+    | inr after ↦
+        let rest = finds test ys x after passes in
+        let place = rest.at in
+        record { item = rest.item; is = cond-false (test y) (Some y) (find test ys) miss ∙ rest.is; at = (suc place.0, omega (arith, place.1), place.2); passes = rest.passes }
+  ]
 ]
 
 -- a case that hands on
@@ -131,7 +129,7 @@ module _ (s : Scoring) (margin least : ℕ) (event : LocatedValue) (p : Passed s
   unfolding near_of
   near_is marks long marked =
       let each : (j : ℕ) → j < length marks → near_entry event.boxes least (0 + j, get_or marks j 0)
-          ≡ cond (is_alone s.grid event.boxes (0 + j) && nat_le least (s.score (0 + j))) (Some (with_score s.score (0 + j))) None =
+      ≡ cond (is_alone s.grid event.boxes (0 + j) && nat_le least (s.score (0 + j))) (Some (with_score s.score (0 + j))) None =
       λ j below.
       let first : j ≡ 0 + j = omega arith in
       subst (λ (n : ℕ). near_entry event.boxes least (n, get_or marks j 0) ≡ cond (is_alone s.grid event.boxes n && nat_le least (s.score n)) (Some (with_score s.score n)) None)

@@ -1,14 +1,14 @@
 -- The walk over all marks beside the printed near list.
-use Rattle.std.proofs.Common.{◌≡◌, ◌⊎◌, inl, inr, ℕ, zero, suc, ◌+◌, ◌-◌, ◌<◌, ◌≤◌, ◌==◌, ◌&&◌, arith, refl, ap, sym, subst, ◌∙◌, Bool, true, false, cond, List, [], ◌∷◌, length, get_or, filter, map, drop, Option, None, Some, Contains}
-use Rattle.std.specs.List.{enumerate_from, filter_map, find, list_any, range_with_len, cons_option}
-use Rattle.std.specs.Option.{option_and_then, option_map_or}
-use Rattle.std.specs.Prelude.{nat_le, option_map, slice_get}
-use Rattle.std.proofs.lemmas.Bool.{and_from, and_right, cases_Bool, cases_lt, cond-false, cond-true, eq-eqb}
+use Rattle.std.proofs.Common.{◌≡◌, inl, inr, ℕ, suc, ◌+◌, ◌-◌, ◌<◌, ◌≤◌, ◌==◌, arith, refl, ap, sym, ◌∙◌, true, false, cond, List, [], ◌∷◌, length, get_or, drop, Option, None, Some}
+use Rattle.std.specs.List.{find, cons_option}
+use Rattle.std.specs.Option.{option_map_or}
+use Rattle.std.specs.Prelude.{option_map, slice_get}
+use Rattle.std.proofs.lemmas.Bool.{cases_Bool, cases_lt, cond-false, cond-true}
 use Rattle.std.proofs.lemmas.List.{at_drop_more, drop_all}
 use Rattle.std.proofs.lemmas.Option.{slice_get-get_or, slice_get_past}
 use Rattle.node_boxes.specs.declared.node_box.BoxBound.{BoxBound}
-use Rattle.node_boxes.specs.Boxes.{IsIn, holds, is_single}
-use Rattle.node_boxes.specs.Grid.{GridSize, node_count}
+use Rattle.node_boxes.specs.Boxes.{holds}
+use Rattle.node_boxes.specs.Grid.{GridSize}
 use Rattle.cover_checker.specs.Findings.{first_difference, same_entry}
 use Rattle.cover_checker.specs.Inside.Marking.{mark_from}
 use Rattle.cover_checker.specs.Inside.Walks.{has_entry, near_bound, near_walk}

@@ -1,14 +1,12 @@
 -- What it means that a pass finds nothing.
-use Rattle.std.proofs.Common.{◌≡◌, inl, inr, ℕ, zero, suc, ◌+◌, ◌<◌, ◌≤◌, ◌==◌, ◌&&◌, ◌||◌, arith, refl, ap, sym, subst, ◌∙◌, Bool, true, false, cond, not, List, [], ◌∷◌, length, get_or, All, Contains, Option, None, Some}
-use Rattle.std.specs.List.{find, position_from}
+use Rattle.std.proofs.Common.{◌≡◌, inl, inr, ℕ, ◌+◌, ◌<◌, ◌==◌, arith, refl, ap, sym, ◌∙◌, Bool, true, false, not, List, [], ◌∷◌, get_or, All, Option, None, Some}
+use Rattle.std.specs.List.{position_from}
 use Rattle.std.specs.Option.{option_or}
 use Rattle.std.specs.Prelude.{nat_le, nat_lt, option_map}
-use Rattle.std.proofs.lemmas.Bool.{and_cases, and_from, and_left, and_right, cases_Bool, cond-false, cond-true, eq-eqb, eqb-true, leb-false, lt-leb, ltb-false, not-false}
+use Rattle.std.proofs.lemmas.Bool.{and_cases, and_left, and_right, cases_Bool, cond-false, eq-eqb, eqb-true, leb-false, lt-leb, ltb-false, not-false}
 use Rattle.std.proofs.lemmas.List.Elements.{All-cons, All-head, All-tail}
 use Rattle.node_boxes.specs.declared.node_box.BoxBound.{BoxBound}
-use Rattle.node_boxes.specs.Boxes.{IsIn, is_single}
-use Rattle.node_boxes.specs.Grid.{GridSize, node_count}
-use Rattle.cover_checker.specs.declared.verdict.Verdict.{Verdict}
+use Rattle.node_boxes.specs.Boxes.{is_single}
 use Rattle.cover_checker.specs.declared.verdict.Verdict.TheVariants.{NotClosed, WrongBound}
 use Rattle.cover_checker.specs.Covers.{misplaced, uncovered}
 use Rattle.cover_checker.specs.Findings.{not_closed, not_zero, wrong_bound}
@@ -51,11 +49,11 @@ unfolding not_closed
 closed_low least boxes none =
     let fails = place_none (is_open least) 0 boxes (map-none NotClosed (position_from (is_open least) 0 boxes) none) in
     λ k d below several.
-        let b = get_or boxes k d in
-        elim (and_cases (not (is_single b.area)) (nat_le least b.bound) (fails k d below)) [
-          | inl single ↦ absurd (let bad : true ≡ false = sym (ap not several) ∙ single in cc)
-          | inr low ↦ leb-false least b.bound low
-        ]
+    let b = get_or boxes k d in
+    elim (and_cases (not (is_single b.area)) (nat_le least b.bound) (fails k d below)) [
+      | inl single ↦ absurd (let bad : true ≡ false = sym (ap not several) ∙ single in cc)
+      | inr low ↦ leb-false least b.bound low
+    ]
 
 pub low_closed : (least : ℕ) (boxes : List BoxBound) → All (λ b. is_single b.area ≡ false → b.bound < least) boxes → not_closed least boxes ≡ None
 unfolding not_closed

@@ -1,8 +1,7 @@
 -- The steps of the passes that mark nodes.
-use Rattle.std.proofs.Common.{◌≡◌, inl, inr, ℕ, zero, suc, ◌+◌, ◌<◌, ◌≤◌, ◌==◌, ◌||◌, arith, refl, ap, sym, ◌∙◌, Bool, true, false, cond, not, List, [], ◌∷◌, ◌++◌, length, get_or, set, All, AllPairs, Contains, Option, None, Some, subst, take, get_or-set_other}
+use Rattle.std.proofs.Common.{◌≡◌, inl, inr, ℕ, suc, ◌+◌, ◌<◌, ◌≤◌, ◌==◌, arith, refl, ap, sym, ◌∙◌, Bool, true, false, cond, not, List, [], ◌∷◌, ◌++◌, length, get_or, set, All, AllPairs, Option, None, Some, subst, take, get_or-set_other}
 use Rattle.std.specs.List.{find, list_any, position_from, range_with_len}
 use Rattle.std.specs.Option.{option_or}
-use Rattle.std.specs.Prelude.{option_map}
 use Rattle.std.proofs.lemmas.Bool.{cases_Bool, cond-false, cond-true, eq-eqb, eqb-true, false_from_ne_true, or_parts}
 use Rattle.std.proofs.lemmas.Bool.Decides.{nat_tests}
 use Rattle.std.proofs.lemmas.List.{get_or-set_same}

@@ -1,23 +1,22 @@
 -- A certificate that proves its event is true of all nodes.
-use Rattle.std.proofs.Common.{◌≡◌, inl, inr, ℕ, ◌+◌, ◌<◌, ◌≤◌, ◌==◌, ◌&&◌, arith, refl, ap, sym, subst, ◌∙◌, Bool, true, false, cond, List, [], ◌∷◌, length, get_or, filter, map, All, Contains}
-use Rattle.std.specs.List.{list_any}
-use Rattle.std.specs.Prelude.{nat_le, max}
+use Rattle.std.proofs.Common.{◌≡◌, inl, inr, ℕ, ◌<◌, ◌≤◌, ◌&&◌, arith, refl, ap, sym, subst, ◌∙◌, Bool, true, false, cond, List, [], ◌∷◌, get_or, filter, map, All, Contains}
+use Rattle.std.specs.Prelude.{nat_le}
 use Rattle.std.proofs.lemmas.Bool.{and_from, and_right, cases_Bool, cases_lt, leb-true}
 use Rattle.std.proofs.lemmas.List.Elements.{All-head, All-tail}
 use Rattle.std.proofs.lemmas.List.FromFn.{length-range_with_len, get_or-range_with_len}
-use Rattle.cover_certificate.specs.Blocks.{BlockValue, IsValidBlock, IsValidLocated, LocatedValue, IsLocated, FitsNowhere, HasFew, HasMany, PassesBudget, PassesNearLimit}
+use Rattle.cover_certificate.specs.Blocks.{BlockValue, IsValidBlock, LocatedValue, IsLocated, FitsNowhere, HasFew, HasMany, PassesBudget, PassesNearLimit}
 use Rattle.node_boxes.specs.declared.node_box.BoxBound.{BoxBound}
 use Rattle.node_boxes.specs.Boxes.{IsIn, holds, is_single}
-use Rattle.node_boxes.specs.Grid.{GridSize, node_count}
+use Rattle.node_boxes.specs.Grid.{node_count}
 use Rattle.node_boxes.specs.GridOrder.{all_nodes}
 use Rattle.edt_score.specs.Best.{IsFirstBest, best_score}
 use Rattle.edt_score.proofs.BestNodes.{best_score-is}
 use Rattle.octree_search.specs.Cover.{threshold_of}
 use Rattle.octree_search.proofs.Thresholds.{threshold_le}
 use Rattle.cover_checker.specs.Bounding.{AreBounds}
-use Rattle.cover_checker.specs.Findings.{corner, is_alone, near_of, with_score}
-use Rattle.cover_checker.specs.Locations.{IsLocation, IsTrueOf, NoneScores, near_nodes}
-use Rattle.cover_checker.specs.Proving.{IsCover, IsNoBetter, Proves, ProvesLocated, ProvesNoFit}
+use Rattle.cover_checker.specs.Findings.{is_alone, near_of, with_score}
+use Rattle.cover_checker.specs.Locations.{IsTrueOf, near_nodes}
+use Rattle.cover_checker.specs.Proving.{IsCover, IsNoBetter, Proves, ProvesLocated}
 use Rattle.cover_checker.specs.Scorings.{Scoring}
 use Rattle.cover_checker.proofs.BoundLaws.{corner_only}
 use Rattle.cover_checker.proofs.CoverLaws.{all-at, holder, holders_times}

@@ -1,10 +1,10 @@
 -- The steps of the passes over the boxes of a cover, and how their findings become a verdict.
-use Rattle.std.proofs.Common.{◌≡◌, inl, inr, ℕ, zero, suc, ◌+◌, ◌*◌, ◌<◌, ◌≤◌, ◌==◌, ◌&&◌, arith, refl, ap, sym, ◌∙◌, Bool, true, false, cond, not, List, [], ◌∷◌, length, get_or, Option, None, Some, drop, IfSome, IsTrue}
-use Rattle.std.specs.List.{find, position_from}
+use Rattle.std.proofs.Common.{◌≡◌, ℕ, ◌+◌, ◌*◌, ◌<◌, ◌≤◌, ◌==◌, ◌&&◌, arith, refl, ap, sym, ◌∙◌, Bool, true, false, cond, not, List, ◌∷◌, length, get_or, Option, None, Some, drop, IfSome, IsTrue}
+use Rattle.std.specs.List.{position_from}
 use Rattle.std.specs.Option.{option_or}
 use Rattle.std.specs.Prelude.{option_map, nat_le, nat_lt}
 use Rattle.std.proofs.lemmas.Bool.{and_from, and_right, cond-false, cond-true, eq-eqb, lt-ltb}
-use Rattle.std.proofs.lemmas.List.{at_drop_more, drop_all}
+use Rattle.std.proofs.lemmas.List.{at_drop_more}
 use Rattle.node_boxes.specs.declared.node_box.BoxBound.{BoxBound}
 use Rattle.node_boxes.specs.Boxes.{is_single}
 use Rattle.node_boxes.specs.BoxNodes.{box_nodes}

@@ -67,7 +67,14 @@ pub fn check_look<F: Fn(u64, u64) -> u64, L: Look>(
         falloff,
         grid,
     };
-    check_block(&case, look, margin, block, &mut marks.places, &mut marks.room)
+    check_block(
+        &case,
+        look,
+        margin,
+        block,
+        &mut marks.places,
+        &mut marks.room,
+    )
 }
 
 /// The check with the marks of the nodes and the room apart.

@@ -1,4 +1,4 @@
-use Rattle.std.proofs.Common.{rules, ◌≡◌, ◌+◌, ◌<◌, ◌≤◌, ◌∙◌, ap, sym, arith, subst, All, get_or, length}
+use Rattle.std.proofs.Common.{rules, ◌+◌, ◌<◌, ◌≤◌, ◌∙◌, ap, sym, arith, subst, All, length}
 use Rattle.std.proofs.lemmas.List.{get_or_default}
 use Rattle.minmax_pyramid.specs.Spans.{span_over}
 use Rattle.edt_score.specs.Bound.{IsTimeSpan}

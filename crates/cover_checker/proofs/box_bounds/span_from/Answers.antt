@@ -1,4 +1,4 @@
-use Rattle.std.proofs.Common.{rules, ◌≡◌, ◌∷◌, ◌<◌, ◌≤◌, ◌∙◌, ap, arith, subst, All, length, map}
+use Rattle.std.proofs.Common.{◌≡◌, ◌∷◌, ◌<◌, ◌∙◌, ap, arith, subst, All, length}
 use Rattle.std.proofs.lemmas.List.Elements.{All-rest}
 use Rattle.cover_checker.proofs.BoundSteps.{greatest_next, least_next}
 use Rattle.cover_checker.proofs.box_bounds.span_from.Goals as goal

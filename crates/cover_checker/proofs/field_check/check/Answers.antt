@@ -1,4 +1,4 @@
-use Rattle.std.proofs.Common.{◌≡◌, ◌∙◌, ap, sym}
+use Rattle.std.proofs.Common.{◌∙◌, ap, sym}
 use Rattle.kernel_table.specs.Falloff.{shape_of}
 use Rattle.edt_score.specs.declared.problem.Problem.{Problem}
 use Rattle.edt_score.specs.Field.{FieldTimes, time_at}

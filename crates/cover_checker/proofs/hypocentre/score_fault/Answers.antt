@@ -1,10 +1,10 @@
-use Rattle.std.proofs.Common.{rules, ◌≡◌, ◌==◌, ◌+◌, ◌*◌, ◌<◌, ◌∙◌, ap, sym, arith, subst, false, length}
+use Rattle.std.proofs.Common.{rules, ◌≡◌, ◌==◌, ◌<◌, ◌∙◌, ap, sym, arith, subst, false, length}
 use Rattle.node_boxes.specs.Boxes.{IsIn}
 use Rattle.node_boxes.specs.BoxNodes.{box_nodes}
 use Rattle.node_boxes.specs.Grid.{node_count}
 use Rattle.cover_certificate.specs.Blocks.{located_value}
 use Rattle.cover_checker.specs.Findings.{wrong_score}
-use Rattle.cover_checker.specs.Inside.Cases.{case_grid, case_picks, case_scoring}
+use Rattle.cover_checker.specs.Inside.Cases.{case_grid, case_scoring}
 use Rattle.cover_checker.proofs.BoundLaws.{node_box_inside, node_box_one}
 use Rattle.cover_checker.proofs.VerdictSteps.{told_right, told_wrong}
 use Rattle.cover_checker.proofs.hypocentre.score_fault.Goals as goal

@@ -1,4 +1,4 @@
-use Rattle.std.proofs.Common.{◌≡◌, ◌∙◌, ap, sym}
+use Rattle.std.proofs.Common.{◌∙◌, ap, sym}
 use Rattle.cover_certificate.specs.Blocks.{FitsNowhere, block_value}
 use Rattle.cover_checker.specs.Inside.Cases.{case_scoring}
 use Rattle.cover_checker.specs.Verdicts.{verdict_of}

@@ -1,10 +1,10 @@
-use Rattle.std.proofs.Common.{rules, ◌≡◌, ◌∙◌, ℕ, None, Some, ap, sym, arith, subst, length, IsTrue}
+use Rattle.std.proofs.Common.{◌≡◌, ◌∙◌, ap, arith, subst, length}
 use Rattle.kernel_table.specs.Falloff.{shape_of}
 use Rattle.node_boxes.specs.Grid.{node_count}
 use Rattle.node_boxes.specs.declared.node_box.BoxBound.{BoxBound}
 use Rattle.std.specs.Prelude.{List, option_map}
 use Rattle.edt_score.specs.Look.{numbered}
-use Rattle.cover_certificate.specs.Blocks.{LocatedValue, located_value}
+use Rattle.cover_certificate.specs.Blocks.{located_value}
 use Rattle.cover_checker.specs.declared.verdict.Verdict.TheVariants.{NearWrong}
 use Rattle.cover_checker.specs.Findings.{first_difference, not_closed, wrong_score}
 use Rattle.cover_checker.specs.Inside.Cases.{case_falloff, case_grid, case_picks, case_scoring}
@@ -100,7 +100,7 @@ returns-in-Some-near_fault-clause-value g c =
     let marked : IsMarked (case_grid case) event.boxes marks = subst (λ (boxes : List BoxBound). IsMarked (case_grid case) boxes marks) c.deref.ensures.value c.in_default.ensures.marked in
     let least = c.threshold-least.result in
     let told : option_map NearWrong (first_difference 0 c.deref-3.result.now (near_walk c.deref-4.result.now least 0 marks))
-        ≡ option_map NearWrong (first_difference 0 event.near (near_walk event.boxes least 0 marks)) =
+    ≡ option_map NearWrong (first_difference 0 event.near (near_walk event.boxes least 0 marks)) =
     ap (λ near. option_map NearWrong (first_difference 0 near (near_walk c.deref-4.result.now least 0 marks))) c.deref-3.ensures.value
     ∙ ap (λ boxes. option_map NearWrong (first_difference 0 event.near (near_walk boxes least 0 marks))) c.deref-4.ensures.value in
     located_near scoring c.args.margin least event passed scored c.in_default-first_better.ensures marks long marked c.in-Some-near_fault.verdict
@@ -124,7 +124,7 @@ returns-clause-value g c =
     let marked : IsMarked (case_grid case) event.boxes marks = subst (λ (boxes : List BoxBound). IsMarked (case_grid case) boxes marks) c.deref.ensures.value c.in_default.ensures.marked in
     let least = c.threshold-least.result in
     let told : option_map NearWrong (first_difference 0 c.deref-3.result.now (near_walk c.deref-4.result.now least 0 marks))
-        ≡ option_map NearWrong (first_difference 0 event.near (near_walk event.boxes least 0 marks)) =
+    ≡ option_map NearWrong (first_difference 0 event.near (near_walk event.boxes least 0 marks)) =
     ap (λ near. option_map NearWrong (first_difference 0 near (near_walk c.deref-4.result.now least 0 marks))) c.deref-3.ensures.value
     ∙ ap (λ boxes. option_map NearWrong (first_difference 0 event.near (near_walk boxes least 0 marks))) c.deref-4.ensures.value in
     located_proved scoring c.args.margin least event passed scored c.in_default-first_better.ensures marks long marked

@@ -1,4 +1,3 @@
-use Rattle.std.proofs.Common.{◌≡◌, IsTrue}
 use Rattle.cover_checker.specs.Inside.Cases.{case_scoring}
 use Rattle.cover_checker.proofs.LocatedSteps.{none_cover, none_open, none_proved}
 use Rattle.cover_checker.proofs.VerdictSteps.{late, zero_late}

@@ -1,4 +1,4 @@
-use Rattle.std.proofs.Common.{rules, ◌≡◌, ◌+◌, ◌*◌, ◌<◌, ◌≤◌, ◌∙◌, ap, sym, arith, length}
+use Rattle.std.proofs.Common.{◌≡◌, sym, arith, length}
 use Rattle.std.proofs.Math.Nat.{mul-le-mul_left}
 use Rattle.cover_checker.specs.Findings.{wrong_bound}
 use Rattle.cover_checker.specs.Inside.Cases.{case_grid, case_picks, case_scoring}

@@ -1,10 +1,10 @@
-use Rattle.std.proofs.Common.{rules, ◌≡◌, ◌∷◌, ◌+◌, ◌<◌, ◌≤◌, ◌∙◌, ℕ, [], List, true, false, ap, sym, arith, drop, length}
+use Rattle.std.proofs.Common.{rules, ◌≡◌, ◌+◌, ◌<◌, ◌≤◌, ◌∙◌, true, false, ap, sym, arith, drop, length}
 use Rattle.std.specs.Prelude.{option_map}
 use Rattle.std.proofs.lemmas.List.{drop_all}
 use Rattle.cover_checker.specs.declared.verdict.Verdict.TheVariants.{NearWrong}
 use Rattle.cover_checker.specs.Findings.{first_difference}
 use Rattle.cover_checker.specs.Inside.Walks.{has_entry, near_walk}
-use Rattle.cover_checker.proofs.NearSteps.{agrees_here, differs_here, entry_within, more_printed, none_printed, walk_none, walk_some}
+use Rattle.cover_checker.proofs.NearSteps.{agrees_here, differs_here, entry_within, more_printed, walk_some}
 use Rattle.cover_checker.proofs.near.near_fault.Goals as goal
 
 pub returns-then-not-has_entry : goal.returns-then-not-has_entry

@@ -1,4 +1,4 @@
-use Rattle.std.proofs.Common.{rules, ◌≡◌, ◌==◌, ◌+◌, ◌*◌, ◌<◌, ◌∙◌, ap, sym, arith, false, length, get_or, drop}
+use Rattle.std.proofs.Common.{rules, ◌≡◌, ◌<◌, ◌∙◌, ap, sym, length, get_or}
 use Rattle.cover_checker.specs.Inside.Cases.{case_grid, case_picks, case_scoring}
 use Rattle.cover_checker.proofs.Tests.{no_box}
 use Rattle.cover_checker.proofs.VerdictSteps.{is_wrong, looks_left, not_wrong, place_miss}

@@ -1,7 +1,6 @@
-use Rattle.std.proofs.Common.{rules, ◌≡◌, ◌==◌, ◌∙◌, ℕ, Option, ap, sym, not, length}
+use Rattle.std.proofs.Common.{◌∙◌, ap}
 use Rattle.std.specs.Prelude.{option_map}
 use Rattle.cover_checker.specs.declared.verdict.Verdict.TheVariants.{Uncovered}
-use Rattle.cover_checker.specs.Covers.{uncovered}
 use Rattle.cover_checker.proofs.CoverLaws.{zero_uncovered}
 use Rattle.cover_checker.proofs.placing.free_node.Goals as goal
 

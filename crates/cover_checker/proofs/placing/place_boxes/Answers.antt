@@ -1,4 +1,4 @@
-use Rattle.std.proofs.Common.{rules, ◌≡◌, ◌+◌, ◌<◌, ◌==◌, ◌∙◌, ℕ, List, None, Some, ap, sym, arith, subst, not, cond, All, AllPairs, drop, get_or, length, take}
+use Rattle.std.proofs.Common.{rules, ◌≡◌, ◌+◌, ◌<◌, ◌∙◌, ℕ, List, None, Some, ap, sym, arith, subst, All, AllPairs, drop, get_or, length, take}
 use Rattle.std.specs.List.{enumerate_from, find}
 use Rattle.std.proofs.lemmas.List.{length-take-le, take_more}
 use Rattle.node_boxes.specs.declared.node_box.BoxBound.{BoxBound}
