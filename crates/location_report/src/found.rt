@@ -100,7 +100,8 @@ fn push_located(
     requires event { IsPreparedOne assembly.now.field event.now }
     requires problem { has_problem (case_value event.now.case) ≡ true }
     requires node { located.now.hyp < node_count assembly.now.frame.grid }
-    ensures { OnOk result (out.new.items ≡ out.old.items ++ text_of_lines (report_lines assembly.now.frame assembly.now.field
+    ensures { OnOk result (out.new.items ≡ out.old.items ++ text_of_lines
+        (report_lines assembly.now.frame assembly.now.field
         (event_value event.now) (Some (found_value (Found.Located located.now))))) }
 {
     let Case::Ready(problem) = &event.case else {
