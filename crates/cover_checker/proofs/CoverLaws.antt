@@ -22,7 +22,7 @@ use Rattle.cover_checker.specs.Proving.{holders_of}
 use Rattle.cover_checker.specs.Inside.Marking.{IsMarked}
 use Rattle.cover_checker.specs.Inside.Walks.{nodes_in}
 use Rattle.cover_checker.proofs.PlacingSteps.{free_walk, in_from, in_is, mark_held}
-use Rattle.cover_checker.proofs.Tests.{any-contains, find-none, no_box}
+use Rattle.cover_checker.proofs.Searches.{any-contains, find-none, no_box}
 
 -- 1 where the box holds the node, and 0 elsewhere
 abbrev pub held_by : GridSize → ℕ → BoxBound → ℕ

@@ -20,7 +20,7 @@ use Rattle.cover_checker.specs.Scorings.{Scoring}
 use Rattle.cover_checker.specs.Verdicts.{first_found, verdict_of}
 use Rattle.cover_checker.proofs.CoverLaws.{find-fails, map-none}
 use Rattle.cover_checker.proofs.PassLaws.{bounds_right, bounds_zero, closed_low, cover_covered, cover_from, cover_placed, low_closed, zero_bounds}
-use Rattle.cover_checker.proofs.Tests.{find-none}
+use Rattle.cover_checker.proofs.Searches.{find-none}
 
 -- a finding that isn't `Proved` is none where the verdict is `Proved`
 peel : (finding : Option Verdict) (rest : List (Option Verdict)) → (finding ≡ Some Proved → ⊥) → first_found (finding ∷ rest) ≡ Proved

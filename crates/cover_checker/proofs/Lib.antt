@@ -1,4 +1,4 @@
-pub mod Tests
+pub mod Searches
 pub mod PlacingSteps
 pub mod CoverLaws
 pub mod BoundLaws

@@ -24,7 +24,7 @@ use Rattle.cover_checker.proofs.CoverLaws.{all-at}
 use Rattle.cover_checker.proofs.NearSteps.{mark_find}
 use Rattle.cover_checker.proofs.PassLaws.{closed_low, cover_is}
 use Rattle.cover_checker.proofs.ProofLaws.{box_of_node}
-use Rattle.cover_checker.proofs.Tests.{any-contains, find-same}
+use Rattle.cover_checker.proofs.Searches.{any-contains, find-same}
 use Rattle.cover_checker.proofs.VerdictSteps.{finding_none, finding_some, findings_none, findings_some, is_beating}
 
 -- the walk over marks as a filter of all nodes

@@ -12,7 +12,7 @@ use Rattle.node_boxes.specs.Grid.{GridSize}
 use Rattle.cover_checker.specs.Findings.{first_difference, same_entry}
 use Rattle.cover_checker.specs.Inside.Marking.{mark_from}
 use Rattle.cover_checker.specs.Inside.Walks.{has_entry, near_bound, near_walk}
-use Rattle.cover_checker.proofs.Tests.{nonzero}
+use Rattle.cover_checker.proofs.Searches.{nonzero}
 
 -- one more node is or isn't near
 module _ (boxes : List BoxBound) (least node : ℕ) (marks : List ℕ) (below : node < length marks) where

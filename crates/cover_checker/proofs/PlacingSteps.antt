@@ -15,7 +15,7 @@ use Rattle.cover_checker.specs.declared.verdict.Verdict.{Verdict}
 use Rattle.cover_checker.specs.declared.verdict.Verdict.TheVariants.{Outside, Twice}
 use Rattle.cover_checker.specs.Covers.{is_held, is_in, placing_fault}
 use Rattle.cover_checker.specs.Inside.Marking.{IsMarked, mark_from}
-use Rattle.cover_checker.proofs.Tests.{box_nodes-any, find-none, find-same, nonzero, pairs-head}
+use Rattle.cover_checker.proofs.Searches.{box_nodes-any, find-none, find-same, nonzero, pairs-head}
 
 -- a node is marked
 abbrev pub is_marked : List ℕ → ℕ → Bool

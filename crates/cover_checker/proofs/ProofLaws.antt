@@ -20,7 +20,7 @@ use Rattle.cover_checker.specs.Proving.{IsCover, IsNoBetter, Proves, ProvesLocat
 use Rattle.cover_checker.specs.Scorings.{Scoring}
 use Rattle.cover_checker.proofs.BoundLaws.{corner_only}
 use Rattle.cover_checker.proofs.CoverLaws.{all-at, holder, holders_times}
-use Rattle.cover_checker.proofs.Tests.{any-contains}
+use Rattle.cover_checker.proofs.Searches.{any-contains}
 
 -- the box that holds a node of a cover
 pub record IsBoxOf (s : Scoring) (boxes : List BoxBound) (node : ℕ) : Type 0 where

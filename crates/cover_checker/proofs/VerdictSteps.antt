@@ -23,7 +23,7 @@ use Rattle.cover_checker.specs.Verdicts.{first_found, is_early}
 use Rattle.cover_checker.specs.Inside.Cases.{case_falloff, case_grid, case_picks, case_scoring}
 use Rattle.cover_checker.specs.Inside.Walks.{beats, nodes_in}
 use Rattle.cover_checker.proofs.BoundLaws.{bounds_are, node_box_score}
-use Rattle.cover_checker.proofs.Tests.{no_box}
+use Rattle.cover_checker.proofs.Searches.{no_box}
 
 -- the tests of the passes
 abbrev pub is_wrong : Scoring → BoxBound → Bool

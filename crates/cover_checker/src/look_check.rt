@@ -51,7 +51,8 @@ pub fn check_look<F: Fn(u64, u64) -> u64, L: Look>(
     requires nodes { L.nodes look.old ≡ node_count grid.now }
     requires room { L.count look.old + length problem.now.picks.items * (node_count grid.now + 1) < 2 ^ 64 }
     // the verdict
-    ensures value { let scoring = scoring_of (shape_of falloff.now) grid.now (L.times look.old) (numbered problem.now.picks.items) in
+    ensures value { let picks = numbered problem.now.picks.items in
+        let scoring = scoring_of (shape_of falloff.now) grid.now (L.times look.old) picks in
         result ≡ verdict_of scoring margin (block_value block.now) }
     // what is left
     ensures marks { marks.new ≡ marks.old }

@@ -1,6 +1,6 @@
 use Rattle.std.proofs.Common.{rules, ◌≡◌, ◌<◌, ◌∙◌, ap, sym, length, get_or}
 use Rattle.cover_checker.specs.Inside.Cases.{case_grid, case_picks, case_scoring}
-use Rattle.cover_checker.proofs.Tests.{no_box}
+use Rattle.cover_checker.proofs.Searches.{no_box}
 use Rattle.cover_checker.proofs.VerdictSteps.{is_wrong, looks_left, not_wrong, place_miss}
 use Rattle.cover_checker.proofs.passes.first_wrong.Goals as goal
 

@@ -2,7 +2,7 @@ use Rattle.std.proofs.Common.{rules, ◌≡◌, ◌∷◌, ◌<◌, ◌∙◌, a
 use Rattle.std.specs.List.{find}
 use Rattle.std.proofs.lemmas.List.Elements.{All-rest}
 use Rattle.cover_checker.proofs.PlacingSteps.{find_step, is_marked, mark_after, mark_step}
-use Rattle.cover_checker.proofs.Tests.{pairs-tail}
+use Rattle.cover_checker.proofs.Searches.{pairs-tail}
 use Rattle.cover_checker.proofs.placing.mark_nodes.Goals as goal
 
 pub loop-node-preserved : goal.loop-node-preserved

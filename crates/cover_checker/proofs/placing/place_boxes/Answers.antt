@@ -8,7 +8,7 @@ use Rattle.node_boxes.proofs.Nodes.{box_nodes-below, box_nodes-order}
 use Rattle.cover_checker.specs.Covers.{first_of, is_held, placing_fault}
 use Rattle.cover_checker.specs.Inside.Marking.{IsMarked}
 use Rattle.cover_checker.proofs.PlacingSteps.{fault_none, fault_twice, found_held, in_from, is_marked, mark_after, marked_more}
-use Rattle.cover_checker.proofs.Tests.{first_of-more, no_box}
+use Rattle.cover_checker.proofs.Searches.{first_of-more, no_box}
 use Rattle.cover_checker.proofs.placing.place_boxes.Goals as goal
 
 pub mark_nodes-requires-clause-inside : goal.mark_nodes-requires-clause-inside
