@@ -24,8 +24,8 @@ use std::alloc::Global;
 ///
 /// The words `solve PROBLEM` read a problem file and write the first node in grid order whose score no node exceeds, or `NOFIT`
 /// where every node scores 0; the kernel is Gauss. The words `locate CONTROL` read a control file with the files that it includes, the
-/// phase file and the time grids, and write a head line and a block for each event, with the first such node for each event that is
-/// located. Other words have no shape.
+/// phase file and the time grids, and write a head line and a block for each event. The block of a located event has the first such node,
+/// the nodes near it by the control file's margin, and the shortest cover of the octree that proves both. Other words have no shape.
 ///
 /// | status | comes |
 /// |---|---|
