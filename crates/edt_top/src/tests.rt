@@ -3,6 +3,7 @@
 mod locate_calls;
 mod locate_refusals;
 mod locate_texts;
+mod many_nodes;
 mod network;
 mod running;
 mod sample;
