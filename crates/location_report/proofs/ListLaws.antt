@@ -1,11 +1,14 @@
 -- Lists that are walked from the front.
-use Rattle.std.proofs.Common.{◌≡◌, ℕ, zero, suc, ◌+◌, ◌<◌, List, [], ◌∷◌, ◌++◌, map, take, get_or, length, refl, sym, ap, ◌∙◌, arith, append_assoc}
-use Rattle.std.specs.Prelude.{All, zip}
+use Rattle.std.proofs.Common.{◌≡◌, ℕ, zero, suc, ◌+◌, ◌<◌, List, [], ◌∷◌, ◌++◌, map, take, get_or, length, refl, sym, ap, ◌∙◌, arith, append_assoc, append-nil, ℤ}
+use Rattle.std.specs.Prelude.{All, codes, decimal, zip}
+use Rattle.std.specs.Fmt.{signed_decimal}
+use Rattle.std.specs.List.{join_with_byte}
 use Rattle.std.proofs.lemmas.List.{get_or-map, length-map, map_more, take_more}
 use Rattle.std.proofs.lemmas.List.Elements.{All-push}
 use Rattle.std.proofs.lemmas.List.Concat.{flat_map-append}
 use Rattle.text_terms.specs.Lines.{LineText}
 use Rattle.cover_certificate.specs.BlockLines.{text_of_lines}
+use Rattle.location_report.specs.Lines.{place_line}
 
 -- the text of lines and of more lines
 pub text-append : (lines more : List LineText) → text_of_lines (lines ++ more) ≡ text_of_lines lines ++ text_of_lines more
@@ -69,3 +72,27 @@ pair_at f xs ys i x y below same first second =
     zip_at xs (map f ys) i x (f y) (x, f y) below (omega (arith, below, same, length-map ys f))
     ∙ ap (λ a. (a, get_or (map f ys) i (f y))) (sym first)
     ∙ ap (λ b. (x, b)) (get_or-map f ys i y (f y) (omega (arith, below, same)) ∙ ap f (sym second))
+
+-- words parted by blanks, and one more
+join_push : (x : List ℕ) (xs : List (List ℕ)) (y : List ℕ) → join_with_byte 32 ((x ∷ xs) ++ y ∷ []) ≡ join_with_byte 32 (x ∷ xs) ++ 32 ∷ y
+join_push x [] y = refl
+join_push x (w ∷ xs) y = ap (λ t. x ++ 32 ∷ t) (join_push w xs y) ∙ sym (append_assoc x (32 ∷ join_with_byte 32 (w ∷ xs)) (32 ∷ y))
+
+word_more : (x : List ℕ) (xs : List (List ℕ)) (y before old new : List ℕ) → old ≡ before ++ join_with_byte 32 (x ∷ xs) → new ≡ old ++ 32 ∷ y
+    → new ≡ before ++ join_with_byte 32 ((x ∷ xs) ++ y ∷ [])
+word_more x xs y before old new first second =
+    second ∙ ap (λ t. t ++ 32 ∷ y) first ∙ append_assoc before (join_with_byte 32 (x ∷ xs)) (32 ∷ y) ∙ ap (λ t. before ++ t) (sym (join_push x xs y))
+
+-- the text of a place
+pub place_text : (place : ℕ × ℕ × ℕ) (x y z : ℤ) (before node one two three whole : List ℕ)
+    → node ≡ before ++ join_with_byte 32 (codes "HYPOCENTRE" ∷ decimal place.0 ∷ decimal place.1 ∷ decimal place.2 ∷ [])
+    → one ≡ node ++ 32 ∷ signed_decimal x → two ≡ one ++ 32 ∷ signed_decimal y → three ≡ two ++ 32 ∷ signed_decimal z → whole ≡ three ++ 10 ∷ []
+    → whole ≡ before ++ text_of_lines (place_line place x y z ∷ [])
+unfolding place_line
+place_text place x y z before node one two three whole first second third fourth fifth =
+    let head : List ℕ = codes "HYPOCENTRE" in
+    let a = word_more head (decimal place.0 ∷ decimal place.1 ∷ decimal place.2 ∷ []) (signed_decimal x) before node one first second in
+    let b = word_more head (decimal place.0 ∷ decimal place.1 ∷ decimal place.2 ∷ signed_decimal x ∷ []) (signed_decimal y) before one two a third in
+    let c = word_more head (decimal place.0 ∷ decimal place.1 ∷ decimal place.2 ∷ signed_decimal x ∷ signed_decimal y ∷ []) (signed_decimal z) before two three b fourth in
+    fifth ∙ ap (λ t. t ++ 10 ∷ []) c ∙ append_assoc before (place_line place x y z).bytes (10 ∷ [])
+    ∙ ap (λ t. before ++ t) (sym (append-nil ((place_line place x y z).bytes ++ 10 ∷ [])))

@@ -87,7 +87,6 @@ residual_limits items time near light k e below =
     let first : k < length items = omega (arith, below, length-map items (residual_from time)) in
     rw (get_or-map (residual_from time) items k e e first) (record { residual = near k e first; weight = light k e first })
 
-
 -- times within their limit, as the used picks have them
 pub timed : (used : List UsedPick) (picks : List ProblemPick) → All HasTime used → map problem_measures picks ≡ map measures_of used
     → All IsTimed picks

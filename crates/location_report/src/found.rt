@@ -75,9 +75,7 @@ pub(crate) fn push_findings(
         (report_lines assembly.now.frame assembly.now.field (event_value event.now) (option_map (λ f. found_value f.now) found.entry))) }
 {
     match found {
-        Some(Found::Located(located)) => {
-            push_located(alloc, out, assembly, event, located)
-        }
+        Some(Found::Located(located)) => { push_located(alloc, out, assembly, event, located) }
         Some(Found::NoFit { met, .. }) => {
             push_unplaced(out, &event.picks.used)?;
             push_skips(out, &event.picks.skipped)?;

@@ -10,8 +10,8 @@ mod found;
 mod lanes;
 mod lines;
 mod locating;
-mod room;
 mod reporting;
+mod room;
 
 pub use lanes::LaneCount;
 pub use reporting::report;

@@ -94,11 +94,7 @@ pub(crate) fn push_skip(out: &mut Vec<u8>, skip: &Skip) -> Result<(), AllocError
 }
 
 /// Appends the place of the hypocentre on the axes, and where it lies in millimetres.
-pub(crate) fn push_hypocentre(
-    out: &mut Vec<u8>,
-    frame: &Frame,
-    node: u32,
-) -> Result<(), AllocError>
+pub(crate) fn push_hypocentre(out: &mut Vec<u8>, frame: &Frame, node: u32) -> Result<(), AllocError>
     requires frame { IsValidFrame frame.now }
     requires node { node < node_count frame.now.grid }
     ensures { OnOk result (out.new.items ≡ out.old.items ++ text_of_lines (hypocentre_line frame.now node ∷ [])) }

@@ -26,5 +26,13 @@ returns c =
     ∷ rms_line (rms_of (residuals_at c.args.assembly.now.field c.args.located.now.hyp c.in-Ready.problem.picks.items))
     ∷ []) =
     rw (c.in_ok-origin.ensures.time, c.in_ok-origin.ensures.rms) at c.in_ok-push_place_and_time.ensures in
-    rw c.in-Ready.is (four_texts _ _ _ (met_line c.args.located.now.met ∷ []) c.args.out.now.items c.push_placed.new.out.items c.push_skips.new.out.items
+    rw c.in-Ready.is (four_texts
+    (map pick_line (zip c.args.event.now.picks.used.items
+    (residual_words c.args.assembly.now.field c.args.located.now.hyp c.in-Ready.problem.picks.items)))
+    (map skip_line c.args.event.now.picks.skipped.items)
+    (hypocentre_line c.args.assembly.now.frame c.args.located.now.hyp
+    ∷ origin_line (origin_at c.args.assembly.now.field c.args.located.now.hyp c.in-Ready.problem.picks.items)
+    ∷ rms_line (rms_of (residuals_at c.args.assembly.now.field c.args.located.now.hyp c.in-Ready.problem.picks.items))
+    ∷ [])
+    (met_line c.args.located.now.met ∷ []) c.args.out.now.items c.push_placed.new.out.items c.push_skips.new.out.items
     c.push_place_and_time.new.out.items c.push_met.new.out.items one two three c.in_ok-push_met.ensures)
