@@ -1,10 +1,10 @@
 -- The bounds of boxes and the scores of their nodes.
-use Rattle.std.proofs.Common.{◌≡◌, inl, inr, ℕ, zero, suc, ◌+◌, ◌-◌, ◌*◌, ◌<◌, ◌≤◌, ◌&&◌, arith, refl, ap, sym, subst, ◌∙◌, Bool, true, false, List, [], ◌∷◌, length, Contains}
+use Rattle.std.proofs.Common.{◌≡◌, ℕ, zero, suc, ◌-◌, ◌*◌, ◌<◌, arith, refl, ap, sym, ◌∙◌, true, List, [], ◌∷◌, length, Contains}
 use Rattle.std.proofs.lemmas.Bool.Decides.{nat_tests}
 use Rattle.kernel_table.specs.declared.kernels.Shape.{Shape}
 use Rattle.node_boxes.specs.declared.node_box.NodeBox.{NodeBox}
 use Rattle.node_boxes.specs.declared.node_box.BoxBound.{BoxBound}
-use Rattle.node_boxes.specs.Boxes.{IsIn, contains, holds, is_single, node_count_of}
+use Rattle.node_boxes.specs.Boxes.{IsIn, contains, holds, is_single}
 use Rattle.node_boxes.specs.BoxNodes.{box_nodes}
 use Rattle.node_boxes.specs.Grid.{GridSize, node_count}
 use Rattle.node_boxes.specs.GridOrder.{IsInside, node_number, place_of}
@@ -98,3 +98,6 @@ corner_only g b node single held =
 pub corner_score : (s : Scoring) → AreBounds s → (b : BoxBound) → IsIn s.grid b.area → is_single b.area ≡ true → s.bound b.area ≡ s.score (corner s.grid b)
 corner_score s bounds b inside single =
     bounds.single b.area (corner s.grid b) inside (corner_below s.grid b inside) (corner_held s.grid b inside) single
+
+pub node_box_one : (g : GridSize) (node : ℕ) → node < node_count g → length (box_nodes g (node_box g node)) ≡ 1
+node_box_one g node below = ap length (single_nodes g (node_box g node) node (node_box_inside g node below) below (node_box_holds g node) (node_box_single g node))

@@ -1,30 +1,28 @@
 -- Boxes of which exactly one holds each node: how often nodes are held, and which box holds one.
-use Rattle.std.proofs.Common.{◌≡◌, ◌⊎◌, inl, inr, ℕ, zero, suc, ◌+◌, ◌*◌, ◌<◌, ◌≤◌, ◌==◌, ◌&&◌, ◌||◌, arith, refl, ap, sym, subst, ◌∙◌, Bool, true, false, cond, not, List, [], ◌∷◌, ◌++◌, length, get_or, map, filter, take, drop, sum_by, All, Contains, Option, None, Some}
-use Rattle.std.specs.List.{enumerate_from, find, list_any, range_with_len}
+use Rattle.std.proofs.Common.{◌≡◌, inl, inr, ℕ, zero, suc, ◌+◌, ◌<◌, ◌≤◌, ◌==◌, arith, refl, ap, sym, subst, ◌∙◌, Bool, true, false, cond, not, List, [], ◌∷◌, ◌++◌, length, get_or, filter, take, sum_by, All, Contains, Option, None, Some}
+use Rattle.std.specs.List.{enumerate_from, find, position_from, range_with_len}
 use Rattle.std.specs.Option.{option_or}
 use Rattle.std.specs.Prelude.{option_map}
-use Rattle.std.proofs.lemmas.Bool.{and_parts, cases_Bool, cond-false, cond-true, false_from_ne_true, not-false, or_parts}
-use Rattle.std.proofs.lemmas.Bool.Decides.{nat_tests}
-use Rattle.std.proofs.lemmas.List.{length-append, take_more, take_all}
+use Rattle.std.proofs.lemmas.Bool.{cases_Bool, cond-false, cond-true, false_from_ne_true, not-false, or_parts}
+use Rattle.std.proofs.lemmas.List.{take_more, take_all}
 use Rattle.std.proofs.lemmas.List.Elements.{All-head, All-tail}
 use Rattle.std.proofs.lemmas.List.FromFn.{length-range_with_len, get_or-range_with_len}
-use Rattle.std.proofs.lemmas.List.Sums.{sum_by-cons, sum_by-append, sum_by-le, sum_by_more_le, sum_by_push}
+use Rattle.std.proofs.lemmas.List.Sums.{sum_by-cons, sum_by-le, sum_by_more_le, sum_by_push}
 use Rattle.node_boxes.specs.declared.node_box.NodeBox.{NodeBox}
 use Rattle.node_boxes.specs.declared.node_box.BoxBound.{BoxBound}
-use Rattle.node_boxes.specs.Boxes.{IsIn, contains, holds, is_single}
+use Rattle.node_boxes.specs.Boxes.{IsIn, contains, holds}
 use Rattle.node_boxes.specs.BoxNodes.{box_nodes}
 use Rattle.node_boxes.specs.Grid.{GridSize, node_count}
 use Rattle.node_boxes.specs.GridOrder.{all_nodes, place_of}
-use Rattle.node_boxes.specs.Roots.{holders}
 use Rattle.node_boxes.proofs.Lists.{sum_by-map}
 use Rattle.node_boxes.proofs.Nodes.{box_nodes-below, box_nodes-contains, box_nodes-holds}
-use Rattle.cover_checker.specs.declared.verdict.Verdict.{Verdict}
 use Rattle.cover_checker.specs.declared.verdict.Verdict.TheVariants.{Outside, Twice, Uncovered}
 use Rattle.cover_checker.specs.Covers.{first_of, is_held, is_in, misplaced, placing_fault, uncovered}
 use Rattle.cover_checker.specs.Proving.{holders_of}
+use Rattle.cover_checker.specs.Inside.Marking.{IsMarked}
 use Rattle.cover_checker.specs.Inside.Walks.{nodes_in}
-use Rattle.cover_checker.proofs.PlacingSteps.{in_from, in_is}
-use Rattle.cover_checker.proofs.Tests.{any-contains, find-none}
+use Rattle.cover_checker.proofs.PlacingSteps.{free_walk, in_from, in_is, mark_held}
+use Rattle.cover_checker.proofs.Searches.{any-contains, find-none, no_box}
 
 -- 1 where the box holds the node, and 0 elsewhere
 abbrev pub held_by : GridSize → ℕ → BoxBound → ℕ
@@ -44,13 +42,13 @@ pub times_never : (g : GridSize) (boxes : List BoxBound) (node : ℕ) → is_hel
 times_never g [] node free = refl
 times_never g (b ∷ boxes) node free =
     let parts = or_parts (holds g b.area node) (is_held g boxes node) free in
-    let here : held_by g node b ≡ 0 = cond-false (holds g b.area node) 1 0 parts.0 in
+    let here : held_by g node b ≡ 0 = cond-false {A = ℕ} (holds g b.area node) 1 0 parts.0 in
     omega (arith, sum_by-cons (held_by g node) b boxes, here, times_never g boxes node parts.1)
 
 pub times_once : (g : GridSize) (boxes : List BoxBound) (node : ℕ) → is_held g boxes node ≡ true → 1 ≤ times_held g boxes node
 times_once g [] node held = cc
 times_once g (b ∷ boxes) node held = elim (cases_Bool (holds g b.area node)) [
-  | inl here ↦ omega (arith, sum_by-cons (held_by g node) b boxes, cond-true (holds g b.area node) 1 0 here)
+  | inl here ↦ omega (arith, sum_by-cons (held_by g node) b boxes, cond-true {A = ℕ} (holds g b.area node) 1 0 here)
   | inr free ↦
       let rest : is_held g boxes node ≡ true = rw free at held in
       omega (arith, sum_by-cons (held_by g node) b boxes, times_once g boxes node rest)
@@ -66,7 +64,7 @@ holder g [] node some = absurd (let none : times_held g [] node ≡ 0 = refl in 
 holder g (b ∷ boxes) node some = elim (cases_Bool (holds g b.area node)) [
   | inl here ↦ (b, (0, omega arith, refl), here)
   | inr free ↦
-      let rest = holder g boxes node (omega (arith, sum_by-cons (held_by g node) b boxes, cond-false (holds g b.area node) 1 0 free)) in
+      let rest = holder g boxes node (omega (arith, sum_by-cons (held_by g node) b boxes, cond-false {A = ℕ} (holds g b.area node) 1 0 free)) in
       let at = rest.1 in
       (rest.0, (suc at.0, omega (arith, at.1), at.2), rest.2)
 ]
@@ -88,7 +86,7 @@ first_of-none f [] none = refl
 first_of-none f (x ∷ xs) none =
     ap (λ o. option_or o (first_of f xs)) (All-head (λ y. f y ≡ None) x xs none) ∙ first_of-none f xs (All-tail (λ y. f y ≡ None) x xs none)
 
-or-none : {B : Type 0} (o p : Option B) → option_or o p ≡ None → (o ≡ None) × (p ≡ None)
+pub or-none : {B : Type 0} (o p : Option B) → option_or o p ≡ None → (o ≡ None) × (p ≡ None)
 or-none None p none = (refl, none)
 or-none (Some x) p none = cc
 
@@ -119,7 +117,7 @@ record IsWell (g : GridSize) (before : List BoxBound) (a : NodeBox) : Type 0 whe
   inside : IsIn g a
   free : find (is_held g before) (box_nodes g a) ≡ None
 
-map-none : {A B : Type 0} (f : A → B) (o : Option A) → option_map f o ≡ None → o ≡ None
+pub map-none : {A B : Type 0} (f : A → B) (o : Option A) → option_map f o ≡ None → o ≡ None
 map-none f None none = refl
 map-none f (Some x) none = cc
 
@@ -130,9 +128,6 @@ well_from g boxes place b none = elim (cases_Bool (is_in g b.area)) [
       record { inside = in_is g b.area inside; free = map-none Twice (find (is_held g (take place boxes)) (box_nodes g b.area)) found }
   | inr out ↦ absurd (let bad : Some (Outside place) ≡ None = rw out at none in cc)
 ]
-
-no_box : BoxBound
-no_box = record { area = record { x0 = 0; x1 = 0; y0 = 0; y1 = 0; z0 = 0; z1 = 0 }; bound = 0 }
 
 module _ (g : GridSize) (boxes : List BoxBound) where
   -- each box of a cover that isn't misplaced
@@ -161,8 +156,8 @@ module _ (g : GridSize) (boxes : List BoxBound) where
             let well = placed_well none i no_box (omega arith) in
             let free = find-none (is_held g (take i boxes)) (box_nodes g (get_or boxes i no_box).area) node well.free
             (box_nodes-contains g (get_or boxes i no_box).area node in_grid here) in
-            omega (arith, sum, times_never g (take i boxes) node free, cond-true (holds g (get_or boxes i no_box).area node) 1 0 here)
-        | inr out ↦ omega (arith, sum, before, cond-false (holds g (get_or boxes i no_box).area node) 1 0 out)
+            omega (arith, sum, times_never g (take i boxes) node free, cond-true {A = ℕ} (holds g (get_or boxes i no_box).area node) 1 0 here)
+        | inr out ↦ omega (arith, sum, before, cond-false {A = ℕ} (holds g (get_or boxes i no_box).area node) 1 0 out)
       ]
 
   pub placed_once : misplaced g boxes ≡ None → (node : ℕ) → node < node_count g → times_held g boxes node ≤ 1
@@ -192,10 +187,10 @@ module _ (g : GridSize) (boxes : List BoxBound) where
       (λ i e within.
       let node = get_or (box_nodes g a) i e in
       let in_grid : node < node_count g = box_nodes-below g a i e within in
-      let here : held_by g node (get_or boxes k d) ≡ 1 = cond-true (holds g a node) 1 0 (box_nodes-holds g a i e within) in
+      let here : held_by g node (get_or boxes k d) ≡ 1 = cond-true {A = ℕ} (holds g a node) 1 0 (box_nodes-holds g a i e within) in
       never_held g (take k boxes) node (omega (arith, sum_by_more_le (held_by g node) boxes k d below, once node in_grid, here))) in
-      let yes = in_from g a (inside k d below) in
-      ap (λ (n : ℕ). placing_fault g boxes (n, get_or boxes k d)) first ∙ rw (yes, free) refl)
+      let lies = in_from g a (inside k d below) in
+      ap (λ (n : ℕ). placing_fault g boxes (n, get_or boxes k d)) first ∙ rw (lies, free) refl)
 
   pub well_covered : ((node : ℕ) → node < node_count g → 1 ≤ times_held g boxes node) → uncovered g boxes ≡ None
   unfolding uncovered
@@ -213,10 +208,10 @@ length-filter p [] = refl
 length-filter p (x ∷ xs) = elim (cases_Bool (p x)) [
   | inl hit ↦
       let here : length (filter p (x ∷ xs)) ≡ suc (length (filter p xs)) = rw hit refl in
-      omega (arith, here, sum_by-cons (λ y. cond (p y) 1 0) x xs, cond-true (p x) 1 0 hit, length-filter p xs)
+      omega (arith, here, sum_by-cons (λ y. cond (p y) 1 0) x xs, cond-true {A = ℕ} (p x) 1 0 hit, length-filter p xs)
   | inr miss ↦
       let here : length (filter p (x ∷ xs)) ≡ length (filter p xs) = rw miss refl in
-      omega (arith, here, sum_by-cons (λ y. cond (p y) 1 0) x xs, cond-false (p x) 1 0 miss, length-filter p xs)
+      omega (arith, here, sum_by-cons (λ y. cond (p y) 1 0) x xs, cond-false {A = ℕ} (p x) 1 0 miss, length-filter p xs)
 ]
 
 sum_by-both : {X : Type 0} (f h : X → ℕ) (xs : List X) → sum_by (λ x. f x + h x) xs ≡ sum_by f xs + sum_by h xs
@@ -258,3 +253,20 @@ nodes_few g boxes none =
     let is : get_or nodes i d ≡ i = get_or-range_with_len 0 (node_count g) i d long ∙ omega arith in
     subst (λ (node : ℕ). times_held g boxes node ≤ 1) (sym is) (placed_once g boxes none i long) in
     omega (arith, nodes_held g boxes, sum_by-le (times_held g boxes) 1 nodes once, length-range_with_len 0 (node_count g))
+
+not_not : (t : Bool) → t ≡ not (not t)
+not_not true = refl
+not_not false = refl
+
+-- the first mark that is 0 is that of the least node that no box holds
+pub zero_uncovered : (g : GridSize) (boxes : List BoxBound) (marks : List ℕ) → length marks ≡ node_count g → IsMarked g boxes marks
+    → option_map Uncovered (position_from (λ mark. mark == 0) 0 marks) ≡ uncovered g boxes
+unfolding uncovered
+zero_uncovered g boxes marks long marked =
+    let test : (j : ℕ) → j < length marks → (get_or marks j 0 == 0) ≡ not (is_held g boxes (0 + j)) =
+    λ j below.
+    let first : 0 + j ≡ j = omega arith in
+    not_not (get_or marks j 0 == 0) ∙ ap not (ap (λ m. not (m == 0)) (marked j (omega (arith, below, long))) ∙ mark_held 1 g boxes j (omega arith))
+    ∙ ap (λ n. not (is_held g boxes n)) (sym first) in
+    ap (option_map Uncovered) (free_walk (λ node. not (is_held g boxes node)) 0 marks test
+    ∙ ap (λ n. find (λ node. not (is_held g boxes node)) (range_with_len 0 n)) long)

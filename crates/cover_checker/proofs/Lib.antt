@@ -1,6 +1,12 @@
-pub mod Tests
+pub mod Searches
 pub mod PlacingSteps
-pub mod VerdictSteps
 pub mod CoverLaws
 pub mod BoundLaws
+pub mod BoundSteps
+pub mod VerdictSteps
+pub mod NearSteps
 pub mod ProofLaws
+pub mod PassLaws
+pub mod LocatedSteps
+pub mod ExactLaws
+pub mod FieldSteps

@@ -1,8 +1,7 @@
 -- The steps of the passes that mark nodes.
-use Rattle.std.proofs.Common.{◌≡◌, inl, inr, ℕ, zero, suc, ◌+◌, ◌<◌, ◌≤◌, ◌==◌, ◌||◌, arith, refl, ap, sym, ◌∙◌, Bool, true, false, cond, not, List, [], ◌∷◌, ◌++◌, length, get_or, set, All, AllPairs, Contains, Option, None, Some, subst, take, get_or-set_other}
+use Rattle.std.proofs.Common.{◌≡◌, inl, inr, ℕ, suc, ◌+◌, ◌<◌, ◌≤◌, ◌==◌, arith, refl, ap, sym, ◌∙◌, Bool, true, false, cond, not, List, [], ◌∷◌, ◌++◌, length, get_or, set, All, AllPairs, Option, None, Some, subst, take, get_or-set_other}
 use Rattle.std.specs.List.{find, list_any, position_from, range_with_len}
 use Rattle.std.specs.Option.{option_or}
-use Rattle.std.specs.Prelude.{option_map}
 use Rattle.std.proofs.lemmas.Bool.{cases_Bool, cond-false, cond-true, eq-eqb, eqb-true, false_from_ne_true, or_parts}
 use Rattle.std.proofs.lemmas.Bool.Decides.{nat_tests}
 use Rattle.std.proofs.lemmas.List.{get_or-set_same}
@@ -16,7 +15,7 @@ use Rattle.cover_checker.specs.declared.verdict.Verdict.{Verdict}
 use Rattle.cover_checker.specs.declared.verdict.Verdict.TheVariants.{Outside, Twice}
 use Rattle.cover_checker.specs.Covers.{is_held, is_in, placing_fault}
 use Rattle.cover_checker.specs.Inside.Marking.{IsMarked, mark_from}
-use Rattle.cover_checker.proofs.Tests.{box_nodes-any, find-none, find-same, nonzero, pairs-head}
+use Rattle.cover_checker.proofs.Searches.{box_nodes-any, find-none, find-same, nonzero, pairs-head}
 
 -- a node is marked
 abbrev pub is_marked : List ℕ → ℕ → Bool
@@ -42,7 +41,7 @@ same-cond false x = refl
 
 -- the mark of a node once some are marked
 abbrev pub mark_after : List ℕ → ℕ → List ℕ → ℕ → ℕ
-mark_after nodes mark marks k = if list_any (λ node. node == k) nodes then mark else get_or marks k 0
+mark_after nodes mark marks k = cond (list_any (λ node. node == k) nodes) mark (get_or marks k 0)
 
 pub mark_step : (marks : List ℕ) (node mark : ℕ) (rest : List ℕ) (k : ℕ) → node < length marks
     → mark_after rest mark (set marks node mark) k ≡ mark_after (node ∷ rest) mark marks k
@@ -77,7 +76,7 @@ mark_push_held k g (c ∷ boxes) b node free held =
 mark_push_free : (k : ℕ) (g : GridSize) (boxes : List BoxBound) (b : BoxBound) (node : ℕ) → holds g b.area node ≡ false
     → mark_from k g (boxes ++ b ∷ []) node ≡ mark_from k g boxes node
 mark_push_free k g [] b node free = cond-false (holds g b.area node) k 0 free
-mark_push_free k g (c ∷ boxes) b node free = ap (λ m. if holds g c.area node then k else m) (mark_push_free (k + 1) g boxes b node free)
+mark_push_free k g (c ∷ boxes) b node free = ap (cond (holds g c.area node) k) (mark_push_free (k + 1) g boxes b node free)
 
 -- once the nodes of one more box are marked
 pub marked_more : (g : GridSize) (boxes : List BoxBound) (b : BoxBound) (marks new : List ℕ) (mark : ℕ) → length marks ≡ node_count g → mark ≡ length boxes + 1
@@ -122,7 +121,7 @@ in_from g a inside =
     grind (arith, nat_tests)
 
 pub in_is : (g : GridSize) (a : NodeBox) → is_in g a ≡ true → IsIn g a
-in_is g a yes = record {
+in_is g a passes = record {
   x = grind (arith, nat_tests);
   x_end = grind (arith, nat_tests);
   y = grind (arith, nat_tests);
@@ -132,7 +131,7 @@ in_is g a yes = record {
 }
 
 pub in_not : (g : GridSize) (a : NodeBox) → (IsIn g a → ⊥) → is_in g a ≡ false
-in_not g a out = false_from_ne_true (is_in g a) (λ yes. out (in_is g a yes))
+in_not g a out = false_from_ne_true (is_in g a) (λ passes. out (in_is g a passes))
 
 -- the fault of a box
 module _ (g : GridSize) (boxes : List BoxBound) (place : ℕ) (b : BoxBound) (rest : Option Verdict) where

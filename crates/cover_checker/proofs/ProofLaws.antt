@@ -1,35 +1,34 @@
 -- A certificate that proves its event is true of all nodes.
-use Rattle.std.proofs.Common.{◌≡◌, inl, inr, ℕ, ◌+◌, ◌<◌, ◌≤◌, ◌==◌, ◌&&◌, arith, refl, ap, sym, subst, ◌∙◌, Bool, true, false, cond, List, [], ◌∷◌, length, get_or, filter, map, All, Contains}
-use Rattle.std.specs.List.{list_any}
-use Rattle.std.specs.Prelude.{nat_le, max}
+use Rattle.std.proofs.Common.{◌≡◌, inl, inr, ℕ, ◌<◌, ◌≤◌, ◌&&◌, arith, refl, ap, sym, subst, ◌∙◌, Bool, true, false, cond, List, [], ◌∷◌, get_or, filter, map, All, Contains}
+use Rattle.std.specs.Prelude.{nat_le}
 use Rattle.std.proofs.lemmas.Bool.{and_from, and_right, cases_Bool, cases_lt, leb-true}
 use Rattle.std.proofs.lemmas.List.Elements.{All-head, All-tail}
 use Rattle.std.proofs.lemmas.List.FromFn.{length-range_with_len, get_or-range_with_len}
-use Rattle.cover_certificate.specs.Blocks.{BlockValue, IsValidBlock, IsValidLocated, LocatedValue, IsLocated, FitsNowhere, HasFew, HasMany, PassesBudget, PassesNearLimit}
+use Rattle.cover_certificate.specs.Blocks.{BlockValue, IsValidBlock, LocatedValue, IsLocated, FitsNowhere, HasFew, HasMany, PassesBudget, PassesNearLimit}
 use Rattle.node_boxes.specs.declared.node_box.BoxBound.{BoxBound}
 use Rattle.node_boxes.specs.Boxes.{IsIn, holds, is_single}
-use Rattle.node_boxes.specs.Grid.{GridSize, node_count}
+use Rattle.node_boxes.specs.Grid.{node_count}
 use Rattle.node_boxes.specs.GridOrder.{all_nodes}
 use Rattle.edt_score.specs.Best.{IsFirstBest, best_score}
 use Rattle.edt_score.proofs.BestNodes.{best_score-is}
 use Rattle.octree_search.specs.Cover.{threshold_of}
 use Rattle.octree_search.proofs.Thresholds.{threshold_le}
 use Rattle.cover_checker.specs.Bounding.{AreBounds}
-use Rattle.cover_checker.specs.Findings.{corner, is_alone, near_of, with_score}
-use Rattle.cover_checker.specs.Locations.{IsLocation, IsTrueOf, NoneScores, near_nodes}
-use Rattle.cover_checker.specs.Proving.{IsCover, IsNoBetter, Proves, ProvesLocated, ProvesNoFit}
+use Rattle.cover_checker.specs.Findings.{is_alone, near_of, with_score}
+use Rattle.cover_checker.specs.Locations.{IsTrueOf, near_nodes}
+use Rattle.cover_checker.specs.Proving.{IsCover, IsNoBetter, Proves, ProvesLocated}
 use Rattle.cover_checker.specs.Scorings.{Scoring}
 use Rattle.cover_checker.proofs.BoundLaws.{corner_only}
 use Rattle.cover_checker.proofs.CoverLaws.{all-at, holder, holders_times}
-use Rattle.cover_checker.proofs.Tests.{any-contains}
+use Rattle.cover_checker.proofs.Searches.{any-contains}
 
 -- the box that holds a node of a cover
-record IsBoxOf (s : Scoring) (boxes : List BoxBound) (node : ℕ) : Type 0 where
-  b : BoxBound
-  at : Contains boxes b
-  held : holds s.grid b.area node ≡ true
-  inside : IsIn s.grid b.area
-  bound : b.bound ≡ s.bound b.area
+pub record IsBoxOf (s : Scoring) (boxes : List BoxBound) (node : ℕ) : Type 0 where
+  pub b : BoxBound
+  pub at : Contains boxes b
+  pub held : holds s.grid b.area node ≡ true
+  pub inside : IsIn s.grid b.area
+  pub bound : b.bound ≡ s.bound b.area
 
 pub box_of_node : (s : Scoring) (boxes : List BoxBound) → IsCover s boxes → (node : ℕ) → node < node_count s.grid → IsBoxOf s boxes node
 box_of_node s boxes cover node below =
@@ -79,8 +78,8 @@ module _ (s : Scoring) (bounds : AreBounds s) (margin : ℕ) (event : LocatedVal
       let box = box_of_node s event.boxes p.cover node below in
       elim (cases_Bool (is_single box.b.area)) [
         | inl single ↦
-            let no = all-at (λ b. is_single b.area ≡ true → IsNoBetter s event b) event.boxes box.b p.first box.at single in
-            omega (arith, no.at_most, ap s.score (corner_only s.grid box.b node single box.held))
+            let better = all-at (λ b. is_single b.area ≡ true → IsNoBetter s event b) event.boxes box.b p.first box.at single in
+            omega (arith, better.at_most, ap s.score (corner_only s.grid box.b node single box.held))
         | inr several ↦
             let shut = all-at (λ b. is_single b.area ≡ false → b.bound < threshold_of margin event.score) event.boxes box.b p.closed box.at several in
             omega (arith, shut, low, under s event.boxes bounds node below box)
@@ -91,9 +90,9 @@ module _ (s : Scoring) (bounds : AreBounds s) (margin : ℕ) (event : LocatedVal
       let below : node < node_count s.grid = omega (arith, p.hyp) in
       let box = box_of_node s event.boxes p.cover node below in
       let single = alone_at node below (omega (arith, low, same)) box in
-      let no = all-at (λ b. is_single b.area ≡ true → IsNoBetter s event b) event.boxes box.b p.first box.at single in
+      let better = all-at (λ b. is_single b.area ≡ true → IsNoBetter s event b) event.boxes box.b p.first box.at single in
       let is = corner_only s.grid box.b node single box.held in
-      let after = no.later (ap s.score (sym is) ∙ same) in
+      let after = better.later (ap s.score (sym is) ∙ same) in
       absurd (omega (arith, after, is))
 
   pub first_best : IsFirstBest (node_count s.grid) s.score event.hyp
@@ -102,9 +101,9 @@ module _ (s : Scoring) (bounds : AreBounds s) (margin : ℕ) (event : LocatedVal
     best = λ other below. omega (arith, at_most other below, p.score);
     first = λ other before. elim (cases_lt (s.score other) (s.score event.hyp)) [
       | inl less ↦ less
-      | inr no ↦
+      | inr equal ↦
           let below : other < node_count s.grid = omega (arith, p.hyp) in
-          absurd (not_before other before (omega (arith, no, at_most other below, p.score)))
+          absurd (not_before other before (omega (arith, equal, at_most other below, p.score)))
     ];
   }
 
@@ -122,7 +121,7 @@ module _ (s : Scoring) (bounds : AreBounds s) (margin : ℕ) (event : LocatedVal
   ]
 
   pub near_all : event.near ≡ near_nodes (node_count s.grid) s.score (threshold_of margin (best_score (node_count s.grid) s.score))
-  unfolding near_of, near_nodes
+  unfolding near_of near_nodes
   near_all =
       let best : event.score ≡ best_score (node_count s.grid) s.score = sym p.score ∙ sym (best_score-is (node_count s.grid) s.score event.hyp first_best) in
       p.near
@@ -140,9 +139,9 @@ true_of s margin (IsLocated event) bounds valid p = record {
   near = near_all s bounds margin event valid.scored p;
 }
 true_of s margin (FitsNowhere boxes) bounds valid p = λ node below.
-let box = box_of_node s boxes p.cover node below in
-let none = all-at (λ b. b.bound ≡ 0) boxes box.b p.zero box.at in
-omega (arith, none, under s boxes bounds node below box)
+    let box = box_of_node s boxes p.cover node below in
+    let none = all-at (λ b. b.bound ≡ 0) boxes box.b p.zero box.at in
+    omega (arith, none, under s boxes bounds node below box)
 true_of s margin HasFew bounds valid p = absurd p
 true_of s margin HasMany bounds valid p = absurd p
 true_of s margin PassesBudget bounds valid p = absurd p

@@ -13,7 +13,7 @@ ghost use Rattle.cover_checker.specs.Inside.Cases.{case_falloff, case_grid, case
 
 use crate::bound_room::BoundRoom;
 use crate::case::Case;
-use edt_score::Look;
+use edt_score::{KeptPairs, Look};
 use node_boxes::{BoxNodes, Grid, NodeBox};
 
 /// The bound of a box that lies in the grid. Each pick's time is looked up once at each node of the box.
@@ -38,9 +38,37 @@ pub(crate) fn box_bound<F: Fn(u64, u64) -> u64, L: Look>(
         L.count look.new ≡ L.count look.old + length (case_picks case.now) * length nodes }
     ensures pairs { room.new ≡ room.old }
 {
-    let spans = &mut room.spans[..case.picks.len()];
+    bound_in(case, look, area, &mut room.spans, &mut room.pairs)
+}
+
+/// The same in room for the spans of 256 picks.
+fn bound_in<F: Fn(u64, u64) -> u64, L: Look>(
+    case: &Case<F>,
+    look: &mut L,
+    area: &NodeBox,
+    room: &mut [(u32, u32)],
+    pairs: &mut KeptPairs,
+) -> u64
+    requires inside { IsIn (case_grid case.now) area.now }
+    requires answers { AnswersItsShape F.Fn (case_falloff case.now) }
+    requires picks { L.picks look.old ≡ length (case_picks case.now) }
+    requires nodes { L.nodes look.old ≡ node_count (case_grid case.now) }
+    requires room { length room.old ≡ 256 }
+    requires pairs { pairs.old ≡ pairs_of (case_picks case.now) }
+    requires looks { let nodes = box_nodes (case_grid case.now) area.now in
+        L.count look.old + length (case_picks case.now) * length nodes < 2 ^ 64 }
+    ensures value { result ≡ (case_scoring case.now (L.times look.old)).bound area.now }
+    ensures same_picks { L.picks look.new ≡ L.picks look.old }
+    ensures same_nodes { L.nodes look.new ≡ L.nodes look.old }
+    ensures same_times { L.times look.new ≡ L.times look.old }
+    ensures looked { let nodes = box_nodes (case_grid case.now) area.now in
+        L.count look.new ≡ L.count look.old + length (case_picks case.now) * length nodes }
+    ensures room { length room.new ≡ 256 }
+    ensures pairs { pairs.new ≡ pairs.old }
+{
+    let spans = &mut room[..case.picks.len()];
     fill_spans(case.grid, look, area, spans);
-    room.pairs.bound(case.falloff, case.picks, &room.spans[..case.picks.len()])
+    pairs.bound(case.falloff, case.picks, spans)
 }
 
 /// Writes the span of each pick over a box.

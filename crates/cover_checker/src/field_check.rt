@@ -41,5 +41,14 @@ pub fn check<F: Fn(u64, u64) -> u64>(
 {
     let mut look = FieldLook::new(scorer.field(), scorer.problem());
     let grid = scorer.field().grid();
-    check_look(scorer.problem(), scorer.falloff(), grid, &mut look, margin, block, marks)
+    let _nodes = grid.nodes();
+    check_look(
+        scorer.problem(),
+        scorer.falloff(),
+        grid,
+        &mut look,
+        margin,
+        block,
+        marks,
+    )
 }

@@ -57,6 +57,7 @@ fn single_box(grid: &Grid, node: u32) -> NodeBox
     requires { node < node_count grid.now }
     ensures { result ≡ node_box grid.now node }
 {
+    let _nodes = grid.nodes();
     let (x, y, z) = grid.place(node);
     NodeBox {
         x0: x,
@@ -74,7 +75,13 @@ pub(crate) fn first_better(grid: &Grid, event: &LocatedBlock) -> Option<Verdict>
     ensures { result ≡ first_beating grid.now (located_value event.now) }
 {
     for b in &event.cover {
-        if b.area.is_single() && beats(event, grid.node_number(b.area.x0, b.area.y0, b.area.z0), b.bound) {
+        if b.area.is_single()
+            && beats(
+                event,
+                grid.node_number(b.area.x0, b.area.y0, b.area.z0),
+                b.bound,
+            )
+        {
             return Some(Verdict::NotFirst(grid.node_number(b.area.x0, b.area.y0, b.area.z0)));
         }
     }

@@ -15,13 +15,13 @@ ghost use Rattle.cover_checker.specs.Proving.{Proves};
 ghost use Rattle.cover_checker.specs.Scorings.{Scoring, scoring_of};
 ghost use Rattle.cover_checker.specs.Verdicts.{verdict_of};
 
-/// The bounds of boxes by picks and travel times are at least the scores of their nodes, whatever the
-/// boxes, and with such bounds a verdict is `Proved` exactly where the certificate proves its event.
+/// A verdict is `Proved` exactly where the certificate proves its event. The bounds of boxes by picks and
+/// travel times are at least the scores of their nodes, whatever the boxes.
 pub fn verdict_law()
+    ensures exactly { (s : Scoring) (margin : ℕ) (block : BlockValue)
+        → (verdict_of s margin block ≡ Proved) ↔ Proves s margin block }
     ensures bounds { (shape : Shape) (g : GridSize) (times : ℕ → ℕ → ℕ) (picks : List ProblemPick)
         → AreBounds (scoring_of shape g times picks) }
-    ensures exactly { (s : Scoring) (margin : ℕ) (block : BlockValue) → AreBounds s
-        → (verdict_of s margin block ≡ Proved) ↔ Proves s margin block }
 {}
 
 /// A certificate that proves its event is true of all nodes.

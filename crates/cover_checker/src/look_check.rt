@@ -51,7 +51,8 @@ pub fn check_look<F: Fn(u64, u64) -> u64, L: Look>(
     requires nodes { L.nodes look.old ≡ node_count grid.now }
     requires room { L.count look.old + length problem.now.picks.items * (node_count grid.now + 1) < 2 ^ 64 }
     // the verdict
-    ensures value { let scoring = scoring_of (shape_of falloff.now) grid.now (L.times look.old) (numbered problem.now.picks.items) in
+    ensures value { let picks = numbered problem.now.picks.items in
+        let scoring = scoring_of (shape_of falloff.now) grid.now (L.times look.old) picks in
         result ≡ verdict_of scoring margin (block_value block.now) }
     // what is left
     ensures marks { marks.new ≡ marks.old }
@@ -67,7 +68,14 @@ pub fn check_look<F: Fn(u64, u64) -> u64, L: Look>(
         falloff,
         grid,
     };
-    check_block(&case, look, margin, block, &mut marks.places, &mut marks.room)
+    check_block(
+        &case,
+        look,
+        margin,
+        block,
+        &mut marks.places,
+        &mut marks.room,
+    )
 }
 
 /// The check with the marks of the nodes and the room apart.
@@ -145,6 +153,7 @@ fn check_located<F: Fn(u64, u64) -> u64, L: Look>(
     if let Some(verdict) = first_better(case.grid, event) {
         return verdict;
     }
+    let _nodes = case.grid.nodes();
     if let Some(verdict) = near_fault(&event.near, &event.cover, least, marks) {
         return verdict;
     }

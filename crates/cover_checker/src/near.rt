@@ -20,12 +20,13 @@ pub(crate) fn near_fault(
 {
     let mut at = 0;
     for node in 0..marks.len() {
-        if let Some(bound) = near_bound(boxes, least, marks[node]) {
-            if !has_entry(near, at, node as u32, bound) {
-                return Some(Verdict::NearWrong(at as u32));
-            }
-            at += 1;
+        let Some(bound) = near_bound(boxes, least, marks[node]) else {
+            continue;
+        };
+        if !has_entry(near, at, node as u32, bound) {
+            return Some(Verdict::NearWrong(at as u32));
         }
+        at += 1;
     }
     if at < near.len() {
         return Some(Verdict::NearWrong(at as u32));

@@ -56,7 +56,10 @@ pub(crate) fn free_node(grid: &Grid, boxes: &[BoxBound], marks: &[u32]) -> Optio
     requires marked { IsMarked grid.now boxes.now marks.now }
     ensures { result ≡ uncovered grid.now boxes.now }
 {
-    let node = first_zero(marks)?;
+    let _nodes = grid.nodes();
+    let Some(node) = first_zero(marks) else {
+        return None;
+    };
     Some(Verdict::Uncovered(node))
 }
 

@@ -1,7 +1,7 @@
-use Rattle.std.proofs.Common.{◌≡◌, ◌+◌, ◌*◌, All, length, take}
-use Rattle.edt_score.specs.Bound.{IsTimeSpan}
+use Rattle.std.proofs.Common.{◌≡◌, ◌+◌, ◌*◌, length}
 use Rattle.node_boxes.specs.BoxNodes.{box_nodes}
 use Rattle.cover_checker.specs.Inside.Walks.{AreSpansOf}
+use Rattle.cover_checker.proofs.BoundSteps.{AreOrdered}
 use Rattle.cover_checker.proofs.box_bounds.fill_spans.Given as goal
 
 abbrev pub invariant-loop-i : goal.invariant-loop-i
@@ -12,5 +12,5 @@ invariant-loop-i g l = record {
   count : g.L.Look.count l.look ≡ g.L.Look.count l.initial.look + l.i * length (box_nodes l.grid l.area);
   room : length l.spans ≡ length l.initial.spans;
   spans : AreSpansOf (g.L.Look.times l.initial.look) (box_nodes l.grid l.area) l.i l.spans;
-  sound : All IsTimeSpan (take l.i l.spans);
+  sound : AreOrdered l.i l.spans;
 }

@@ -10,6 +10,7 @@ invariant-loop-node g l = record {
   times : g.L.Look.times l.look ≡ g.L.Look.times l.initial.look;
   count : g.L.Look.count l.look + length l.nodes ≡ g.L.Look.count l.initial.look + length l.initial.nodes;
   order : l.least ≤ l.greatest;
+  limit : l.greatest ≤ 4294967295;
   low : least (l.least ∷ map (g.L.Look.times l.initial.look l.pick) l.nodes)
       ≡ least (l.time ∷ map (g.L.Look.times l.initial.look l.pick) l.initial.nodes);
   high : greatest (l.greatest ∷ map (g.L.Look.times l.initial.look l.pick) l.nodes)

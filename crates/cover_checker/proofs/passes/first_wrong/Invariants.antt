@@ -1,4 +1,4 @@
-use Rattle.std.proofs.Common.{◌≡◌, ◌==◌, ◌+◌, ◌*◌, ◌≤◌, not, drop, length}
+use Rattle.std.proofs.Common.{◌≡◌, ◌+◌, ◌*◌, ◌≤◌, drop, length}
 use Rattle.std.specs.List.{position_from}
 use Rattle.cover_checker.specs.Inside.Cases.{case_grid, case_picks, case_scoring}
 use Rattle.cover_checker.specs.Inside.Walks.{nodes_in}

@@ -1,18 +1,23 @@
 -- Tests over lists: what is found, whether any passes, and what that says of one element.
-use Rattle.std.proofs.Common.{◌≡◌, inl, inr, ℕ, zero, suc, ◌+◌, ◌<◌, ◌≤◌, ◌==◌, ◌||◌, arith, refl, ap, sym, ◌∙◌, Bool, true, false, cond, not, List, [], ◌∷◌, length, get_or, All, AllPairs, Contains, Option, None, Some, drop, filter}
+use Rattle.std.proofs.Common.{◌≡◌, inl, inr, ℕ, zero, suc, ◌+◌, ◌<◌, ◌≤◌, ◌==◌, arith, refl, ap, sym, ◌∙◌, Bool, true, false, cond, List, [], ◌∷◌, length, get_or, All, AllPairs, Contains, Option, None, Some, drop}
 use Rattle.std.specs.List.{enumerate_from, find, list_any}
 use Rattle.std.specs.Option.{option_or}
-use Rattle.std.proofs.lemmas.Bool.{cases_Bool, cond-false, cond-true, eq-eqb, eqb-true, false_from_ne_true}
+use Rattle.std.proofs.lemmas.Bool.{cases_Bool, eq-eqb, eqb-true, false_from_ne_true}
 use Rattle.std.proofs.lemmas.List.{at_drop_more}
 use Rattle.std.proofs.lemmas.List.Elements.{All-head, All-tail}
 use Rattle.std.proofs.lemmas.List.Folds.{list_any_at, list_any_none}
 use Rattle.node_boxes.specs.declared.node_box.NodeBox.{NodeBox}
+use Rattle.node_boxes.specs.declared.node_box.BoxBound.{BoxBound}
 use Rattle.node_boxes.specs.Boxes.{holds}
 use Rattle.node_boxes.specs.BoxNodes.{box_nodes}
 use Rattle.node_boxes.specs.Grid.{GridSize, node_count}
 use Rattle.node_boxes.proofs.Lists.{first_or_rest}
 use Rattle.node_boxes.proofs.Nodes.{box_nodes-contains, box_nodes-holds}
 use Rattle.cover_checker.specs.Covers.{first_of}
+
+-- what stands for a box past the end of a list
+abbrev pub no_box : BoxBound
+no_box = record { area = record { x0 = 0; x1 = 0; y0 = 0; y1 = 0; z0 = 0; z1 = 0 }; bound = 0 }
 
 -- tests that agree find the same
 pub find-same : {X : Type 0} (p q : X → Bool) (xs : List X) → All (λ x. p x ≡ q x) xs → find p xs ≡ find q xs
@@ -45,8 +50,8 @@ box_nodes-any g a k below = elim (cases_Bool (holds g a k)) [
   | inr free ↦
       list_any_none (λ node. node == k) (box_nodes g a)
       (λ i d within. false_from_ne_true (get_or (box_nodes g a) i d == k)
-      (λ yes.
-      let is : get_or (box_nodes g a) i d ≡ k = eqb-true (get_or (box_nodes g a) i d) k yes in
+      (λ same.
+      let is : get_or (box_nodes g a) i d ≡ k = eqb-true (get_or (box_nodes g a) i d) k same in
       let bad : true ≡ false = sym (box_nodes-holds g a i d within) ∙ ap (holds g a) is ∙ free in cc))
       ∙ sym free
 ]
@@ -65,4 +70,4 @@ first_of-more f xs i d below = at_drop_more (λ ys. first_of f (enumerate_from i
 
 pub nonzero : (n : ℕ) → 1 ≤ n → (n == 0) ≡ false
 nonzero zero some = absurd (omega arith)
-nonzero (suc n) some = refl
+nonzero (suc n) some = false_from_ne_true (suc n == 0) (λ same. absurd (let is : suc n ≡ 0 = eqb-true (suc n) 0 same in omega arith))
