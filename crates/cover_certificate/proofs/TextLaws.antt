@@ -43,7 +43,7 @@ digits_no_feed (b ∷ bytes) digits =
 decimal_no_feed : (n : ℕ) → n < 2 ^ 64 → has_no_feed (decimal n) ≡ true
 decimal_no_feed n small = digits_no_feed (decimal n) (digits_of-shortest (decimal n) (shortest-decimal n small))
 
-joined_no_feed : (a b : List ℕ) → has_no_feed a ≡ true → has_no_feed b ≡ true → has_no_feed (a ++ b) ≡ true
+pub joined_no_feed : (a b : List ℕ) → has_no_feed a ≡ true → has_no_feed b ≡ true → has_no_feed (a ++ b) ≡ true
 joined_no_feed a b first second = list_all-append (λ x. not (is_line_feed x)) a b ∙ rw (first, second) refl
 
 -- spaced numbers
@@ -73,7 +73,7 @@ abbrev pub AreWhole : List LineText → Type 0
 AreWhole [] = Unit {0}
 AreWhole (line ∷ lines) = (has_no_feed line.bytes ≡ true) × (line.ended ≡ true) × AreWhole lines
 
-whole-append : (a b : List LineText) → AreWhole a → AreWhole b → AreWhole (a ++ b)
+pub whole-append : (a b : List LineText) → AreWhole a → AreWhole b → AreWhole (a ++ b)
 whole-append [] b first second = second
 whole-append (line ∷ a) b first second = (first.0, first.1, whole-append a b first.2 second)
 
@@ -148,7 +148,7 @@ no_feed_at (b ∷ bytes) h zero less = no_feed b (both (not (is_line_feed b)) (h
 no_feed_at (b ∷ bytes) h (suc j) less = no_feed_at bytes (both (not (is_line_feed b)) (has_no_feed bytes) h).1 j (omega arith)
 
 -- the lines of the text of lines
-lines_back : (lines : List LineText) (rest : List ℕ) → AreWhole lines → lines_of (text_of_lines lines ++ rest) ≡ lines ++ lines_of rest
+pub lines_back : (lines : List LineText) (rest : List ℕ) → AreWhole lines → lines_of (text_of_lines lines ++ rest) ≡ lines ++ lines_of rest
 lines_back [] rest whole = refl
 lines_back (line ∷ lines) rest whole =
     let joined : ((line.bytes ++ 10 ∷ []) ++ text_of_lines lines) ++ rest ≡ line.bytes ++ 10 ∷ (text_of_lines lines ++ rest) =

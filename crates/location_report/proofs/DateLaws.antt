@@ -1,16 +1,14 @@
 -- The date that jiff finds for a day is the one of the definition.
-use Rattle.std.proofs.Common.{◌≡◌, ℕ, zero, suc, ◌+◌, ◌-◌, ◌*◌, ◌<◌, ◌≤◌, true, false, Some, None, ℤ, pos, negsuc, neg_ℤ, ◌+ℤ◌, ◌-ℤ◌, ◌*ℤ◌, ◌<ℤ◌, ◌≤ℤ◌, unsigned_abs, inl, inr, refl, sym, ◌∙◌, ap, arith}
-use Rattle.std.specs.Prelude.{int_lt, nat_lt, find, unwrap_or}
-use Rattle.std.specs.Int.{IsInRange}
-use Rattle.std.specs.List.{range_with_len}
+use Rattle.std.proofs.Common.{◌≡◌, ℕ, ◌+◌, ◌-◌, ◌<◌, ◌≤◌, true, false, ℤ, pos, negsuc, ◌<ℤ◌, ◌≤ℤ◌, unsigned_abs, refl, sym, ◌∙◌, ap, arith}
+use Rattle.std.specs.Prelude.{int_lt, nat_lt}
 use Rattle.std.proofs.lemmas.Grind.{common_steps}
 use Rattle.std.proofs.lemmas.Int.{ints, by_lt_z}
-use Rattle.jiff_core.specs.Calendar.{IsCivilDate, IsYear, day_count, day_of_year, days_from_civil, days_in_month, days_in_year, days_of_months}
+use Rattle.jiff_core.specs.Calendar.{IsCivilDate, day_count, day_of_year, days_from_civil, days_in_month, days_of_months}
 use Rattle.jiff_core.specs.declared.civil.date.Date.{Date}
 use Rattle.jiff_core.proofs.CalendarLemmas.{day_count-day_of_year, day_count-epoch, day_count-later_year, day_count-lt_year, day_count-next_year, day_of_year_bound, days_from_civil-day_count, days_of_months_mono, days_of_months_more}
 use Rattle.jiff_core.proofs.MarchLemmas.{day_count-early}
 use Rattle.origin_time.proofs.Functions.{find_first}
-use Rattle.location_report.specs.Dates.{CivilDate, days_before, era_date, month_of, year_of}
+use Rattle.location_report.specs.Dates.{days_before, era_date, month_of, year_of}
 
 -- a year of the first 400 from 1970 on
 record IsEraDate (day n m d : ℕ) : Type 0 where

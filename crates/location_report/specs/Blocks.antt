@@ -9,7 +9,7 @@ use Rattle.origin_time.specs.OriginTime.{origin_of}
 use Rattle.origin_time.specs.RootMeanSquare.{rms_of}
 use Rattle.edt_score.specs.Field.{FieldTimes, time_at}
 use Rattle.edt_score.specs.declared.problem.ProblemPick.{ProblemPick}
-use Rattle.octree_search.specs.Outcomes.{Outcome, LocatedValue, IsLocated, FitsNowhere, PassesBudget, PassesNearLimit}
+use Rattle.octree_search.specs.Outcomes.{Outcome, IsLocated, FitsNowhere, PassesBudget, PassesNearLimit}
 use Rattle.station_table.specs.declared.picks.UsedPick.{UsedPick}
 use Rattle.event_assembly.specs.AssemblyValues.{EventCase, EventValues, Ready, Few, Many}
 use Rattle.location_report.specs.Lines.{LaneValues, event_line, pick_line, skip_line, hypocentre_line, origin_line, rms_line, met_line, lanes_line}

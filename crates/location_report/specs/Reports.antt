@@ -1,11 +1,10 @@
 -- What a report is made of.
-use Rattle.std.specs.Prelude.{◌≡◌, ◌≤◌, ◌<◌, ◌-◌, ℕ, Bool, true, false, List, [], length, map, Option, Some, None, slice_get, unwrap_or, is_some}
+use Rattle.std.specs.Prelude.{◌<◌, ◌-◌, ℕ, Bool, true, false, [], map, slice_get, unwrap_or}
 use Rattle.node_boxes.specs.Frame.{IsValidFrame}
 use Rattle.node_boxes.specs.Grid.{GridSize, node_count}
 use Rattle.control_reader.specs.ControlValues.{ControlValues}
 use Rattle.cover_certificate.specs.Blocks.{IsValidBlock}
-use Rattle.octree_search.specs.Outcomes.{Outcome, IsLocated, FitsNowhere, PassesBudget, PassesNearLimit, found_value}
-use Rattle.octree_search.specs.declared.found.Found.{Found}
+use Rattle.octree_search.specs.Outcomes.{Outcome, IsLocated, FitsNowhere, PassesBudget, PassesNearLimit}
 use Rattle.event_assembly.specs.Assembled.{IsAssembled}
 use Rattle.event_assembly.specs.AssemblyValues.{EventCase, EventValues, Ready, Few, Many, event_value}
 use Rattle.event_assembly.specs.declared.assembly.Assembly.{Assembly}

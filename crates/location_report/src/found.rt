@@ -24,7 +24,7 @@ use event_assembly::{Assembly, Case, Prepared};
 use itoa::Buffer;
 use node_boxes::Frame;
 use octree_search::{Found, Located};
-use station_table::{Skip, UsedPick};
+use station_table::{Picks, Skip, UsedPick};
 use std::alloc::{AllocError, Global};
 
 /// What the certificate of an event says, with the lists of what was found.
@@ -72,18 +72,17 @@ pub(crate) fn push_findings(
     requires found { is_some found ≡ has_problem (case_value event.now.case) }
     requires node { IfSome found (λ f. HasNode assembly.now.frame.grid (found_value f.now)) }
     ensures { OnOk result (out.new.items ≡ out.old.items ++ text_of_lines
-        (report_lines assembly.now.frame assembly.now.field (event_value event.now) (option_map (λ f. found_value f.now) found.entry))) }
+        (report_lines assembly.now.frame assembly.now.field (event_value event.now)
+        (option_map (λ f. found_value f.now) found.entry))) }
 {
     match found {
         Some(Found::Located(located)) => { push_located(alloc, out, assembly, event, located) }
         Some(Found::NoFit { met, .. }) => {
-            push_unplaced(out, &event.picks.used)?;
-            push_skips(out, &event.picks.skipped)?;
+            push_all_unplaced(out, &event.picks)?;
             push_met(out, *met)
         }
         Some(Found::Budget) | Some(Found::NearLimit) | None => {
-            push_unplaced(out, &event.picks.used)?;
-            push_skips(out, &event.picks.skipped)
+            push_all_unplaced(out, &event.picks)
         }
     }
 }
@@ -101,7 +100,8 @@ fn push_located(
     requires event { IsPreparedOne assembly.now.field event.now }
     requires problem { has_problem (case_value event.now.case) ≡ true }
     requires node { located.now.hyp < node_count assembly.now.frame.grid }
-    ensures { OnOk result (out.new.items ≡ out.old.items ++ text_of_lines (report_lines assembly.now.frame assembly.now.field
+    ensures { OnOk result (out.new.items ≡ out.old.items ++ text_of_lines
+        (report_lines assembly.now.frame assembly.now.field
         (event_value event.now) (Some (found_value (Found.Located located.now))))) }
 {
     let Case::Ready(problem) = &event.case else {
@@ -159,6 +159,15 @@ fn push_placed_pick(
 {
     let mut word = Buffer::new();
     push_pick(out, pick, word.format(residual.0).as_bytes())
+}
+
+// Appends the lines of the picks of an event that isn't located.
+fn push_all_unplaced(out: &mut Vec<u8>, picks: &Picks) -> Result<(), AllocError>
+    ensures { OnOk result (out.new.items ≡ out.old.items
+        ++ text_of_lines (map unplaced_line picks.now.used.items ++ map skip_line picks.now.skipped.items)) }
+{
+    push_unplaced(out, &picks.used)?;
+    push_skips(out, &picks.skipped)
 }
 
 // Appends the lines of used picks without residuals.

@@ -8,10 +8,15 @@
 mod dates;
 mod found;
 mod lanes;
+mod laws;
 mod lines;
 mod locating;
 mod reporting;
 mod room;
 
 pub use lanes::LaneCount;
+pub use laws::report_law;
 pub use reporting::report;
+
+#[cfg(test)]
+mod tests;

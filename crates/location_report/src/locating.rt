@@ -37,7 +37,8 @@ impl Origin {
         ensures time { IfOk result (λ origin. origin.time ≡ origin_at field.now node problem.now.picks.items) }
         ensures residuals { IfOk result (λ origin.
             origin.residuals.items ≡ residuals_at field.now node problem.now.picks.items) }
-        ensures rms { IfOk result (λ origin. origin.rms ≡ rms_of (residuals_at field.now node problem.now.picks.items)) }
+        ensures rms { IfOk result (λ origin. origin.rms
+            ≡ rms_of (residuals_at field.now node problem.now.picks.items)) }
     {
         let items = items_at(alloc, field, &problem.picks, node)?;
         let time = time_of(alloc, &items)?;

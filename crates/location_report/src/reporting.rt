@@ -44,7 +44,8 @@ pub fn report(
     requires outcome { IfSome found (λ f. IsTellable assembly.now.frame.grid (found_value f.now)) }
     requires lanes { IsTrue (is_some lanes) → IsTrue (is_some found) }
     ensures { IfOk result (λ text. text.items ≡ block_of assembly.now.frame assembly.now.field number
-        (event_at assembly.now number) (option_map (λ f. found_value f.now) found.entry) (option_map lane_values lanes)) }
+        (event_at assembly.now number) (option_map (λ f. found_value f.now) found.entry)
+        (option_map lane_values lanes)) }
 {
     let event = &assembly.events[number as usize - 1];
     let certificate = certificate_of(&event.case, found);

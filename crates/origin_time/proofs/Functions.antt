@@ -1,12 +1,12 @@
 -- Why the origin time is the function of the items that finds it, and so the root mean square.
-use Rattle.std.proofs.Common.{◌≡◌, ℕ, zero, suc, ◌+◌, ◌*◌, ◌≤◌, ◌<◌, Bool, true, false, ◌⊎◌, inl, inr, List, [], ◌∷◌, length, get_or, Some, ℤ, pos, ◌-ℤ◌, ◌+ℤ◌, ◌<ℤ◌, ◌≤ℤ◌, refl, sym, ◌∙◌, ap, arith}
+use Rattle.std.proofs.Common.{◌≡◌, ℕ, zero, suc, ◌+◌, ◌*◌, ◌≤◌, ◌<◌, Bool, true, false, ◌⊎◌, inl, inr, List, [], ◌∷◌, length, get_or, Some, ℤ, pos, ◌-ℤ◌, ◌+ℤ◌, refl, sym, ◌∙◌, ap, arith}
 use Rattle.std.specs.Prelude.{nat_le, find, unsigned_abs}
 use Rattle.std.specs.List.{range_with_len}
 use Rattle.std.proofs.lemmas.Bool.{cases_lt}
 use Rattle.std.proofs.lemmas.Grind.{common_steps}
 use Rattle.std.proofs.lemmas.Int.{ints}
 use Rattle.origin_time.specs.Weights.{total_weight}
-use Rattle.origin_time.specs.OriginTime.{comes_before, nearer_of, nearest_of, origin_of, total_distance, IsOriginTime}
+use Rattle.origin_time.specs.OriginTime.{comes_before, nearer_of, nearest_of, origin_of, IsOriginTime}
 use Rattle.origin_time.specs.RootMeanSquare.{rms_of, total_square, IsRms}
 use Rattle.origin_time.proofs.Medians.{distances, more_distance}
 

@@ -1,5 +1,5 @@
 -- Why the least weighted median is nearest.
-use Rattle.std.proofs.Common.{◌≡◌, ℕ, ◌+◌, ◌*◌, ◌≤◌, ◌<◌, false, List, [], ◌∷◌, length, take, drop, suc, ℤ, pos, ◌-ℤ◌, ◌+ℤ◌, ◌<ℤ◌, ◌≤ℤ◌, refl, sym, ◌∙◌, ap, arith, subst, get_or}
+use Rattle.std.proofs.Common.{◌≡◌, ℕ, ◌+◌, ◌*◌, ◌≤◌, ◌<◌, false, List, [], ◌∷◌, length, take, drop, suc, ℤ, ◌-ℤ◌, ◌<ℤ◌, ◌≤ℤ◌, refl, arith, subst, get_or}
 use Rattle.std.specs.Prelude.{All, unsigned_abs}
 use Rattle.std.specs.List.{sum_by}
 use Rattle.std.specs.List.Sorted.{IsSortedByKey, IsPermutation}
@@ -13,7 +13,7 @@ use Rattle.std.proofs.lemmas.List.{length-take, length-drop, get_or-take, get_or
 use Rattle.std.proofs.lemmas.List.Sorted.{ranks_by, sorted_far, sum_by-IsPermutation}
 use Rattle.std.proofs.lemmas.List.Sums.{sum_by-cons, sum_by-take-drop}
 use Rattle.origin_time.specs.Weights.{total_weight}
-use Rattle.origin_time.specs.OriginTime.{distance_from, total_distance, IsOriginTime}
+use Rattle.origin_time.specs.OriginTime.{distance_from, IsOriginTime}
 
 -- the sum of the distances, as it is written
 abbrev pub distances : ℤ → List (ℤ × ℕ) → ℕ

@@ -1,13 +1,12 @@
 -- There is one origin time at most, and one root mean square.
-use Rattle.std.proofs.Common.{◌≡◌, ℕ, ◌*◌, ◌≤◌, ◌<◌, List, ℤ, ◌<ℤ◌, ◌⊎◌, inl, inr, refl, arith}
+use Rattle.std.proofs.Common.{◌≡◌, ℕ, ◌≤◌, ◌<◌, List, ℤ, ◌<ℤ◌, ◌⊎◌, inl, inr, refl, arith}
 use Rattle.std.specs.declared.cmp.Ordering.{Ordering}
 use Rattle.std.specs.declared.cmp.Ordering.TheVariants.{Less, Equal, Greater}
-use Rattle.std.specs.Ordering.{int_cmp, nat_cmp, MatchOrdering}
+use Rattle.std.specs.Ordering.{int_cmp, MatchOrdering}
 use Rattle.std.proofs.lemmas.Bool.{cases_lt}
 use Rattle.std.proofs.lemmas.Cmp.{int_ranked}
-use Rattle.origin_time.specs.OriginTime.{IsOriginTime, total_distance}
-use Rattle.origin_time.specs.RootMeanSquare.{IsRms, total_square}
-use Rattle.origin_time.specs.Weights.{total_weight}
+use Rattle.origin_time.specs.OriginTime.{IsOriginTime}
+use Rattle.origin_time.specs.RootMeanSquare.{IsRms}
 
 -- of two origin times neither is less
 pub not_less : (items : List (ℤ × ℕ)) (one other : ℤ) → IsOriginTime items one → IsOriginTime items other → one <ℤ other → ⊥

@@ -1,5 +1,6 @@
 //! The root mean square.
 ghost use Rattle.std.specs.Prelude.{◌≡◌, ◌≢◌, ◌*◌, ◌^◌, ◌<◌, ◌≤◌, ℕ, All, length};
+ghost use Rattle.std.specs.Int.{div_ceil};
 ghost use Rattle.origin_time.specs.RootMeanSquare.{IsResidual, IsRms, total_square, weighted_square};
 ghost use Rattle.origin_time.specs.Weights.{total_weight};
 
@@ -17,7 +18,7 @@ pub fn rms(items: &[(i64, u32)]) -> u64
         weight += u128::from(item.1);
         squares += weighted_square(*item);
     }
-    ceil_root(squares.div_ceil(weight))
+    ceil_root(mean_of(squares, weight))
 }
 
 // The square of a residual by its weight.
@@ -28,6 +29,14 @@ fn weighted_square(item: (i64, u32)) -> u128
 {
     let size = u128::from(item.0.unsigned_abs());
     u128::from(item.1) * (size * size)
+}
+
+// A sum of squares by a sum of weights, rounded up.
+fn mean_of(squares: u128, weight: u128) -> u128
+    requires { weight ≢ 0 }
+    ensures { result ≡ div_ceil squares weight }
+{
+    squares.div_ceil(weight)
 }
 
 // The least number whose square is at least `n`.

@@ -1,7 +1,6 @@
 use Rattle.std.proofs.Common.{rules, ◌≡◌, ◌<◌, FitsSigned, w16, w64, pos, unsigned_abs, arith, ap, ◌∙◌, sym}
 use Rattle.std.proofs.lemmas.Int.{ints, to_z-of_z}
 use Rattle.jiff_core.specs.Calendar.{days_from_civil}
-use Rattle.location_report.specs.Dates.{era_date, CivilDate}
 use Rattle.location_report.proofs.DateLaws.{jiff_date, jiff_year, natural}
 use Rattle.location_report.proofs.dates.era_date.Goals as goal
 

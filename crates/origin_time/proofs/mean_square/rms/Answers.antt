@@ -1,6 +1,5 @@
-use Rattle.std.proofs.Common.{◌≡◌, ◌+◌, ◌*◌, ◌^◌, ◌≤◌, ◌<◌, refl, sym, arith, take, get_or, pos}
+use Rattle.std.proofs.Common.{◌≡◌, ◌^◌, refl, sym, arith, take, get_or, pos}
 use Rattle.std.specs.Int.{div_ceil}
-use Rattle.std.proofs.Math.Nat.{mul-le-mul_left}
 use Rattle.std.proofs.lemmas.List.Sums.{sum_by_more}
 use Rattle.std.proofs.lemmas.List.{take_all}
 use Rattle.origin_time.specs.RootMeanSquare.{weighted_square, total_square}
@@ -28,7 +27,7 @@ ceil_root-requires c =
     let kept = c.loop-item.invariant in
     let all : take c.loop-item.item-index c.args.items.now ≡ c.args.items.now = take_all c.loop-item.item-index c.args.items.now c.loop-item-test.false in
     let weight : c.loop-item.weight ≡ total_weight c.args.items.now = rw all at kept.weight in
-    rw c.div_ceil.ensures (quotient_is_few c.loop-item.squares c.loop-item.weight (10 ^ 26) (omega (arith, weight, c.requires.weight)) kept.small)
+    rw c.mean_of.ensures (quotient_is_few c.loop-item.squares c.loop-item.weight (10 ^ 26) (omega (arith, weight, c.requires.weight)) kept.small)
 
 pub returns : goal.returns
 returns c =
@@ -36,6 +35,6 @@ returns c =
     let all : take c.loop-item.item-index c.args.items.now ≡ c.args.items.now = take_all c.loop-item.item-index c.args.items.now c.loop-item-test.false in
     let weight : c.loop-item.weight ≡ total_weight c.args.items.now = rw all at kept.weight in
     let squares : c.loop-item.squares ≡ total_square c.args.items.now = rw all at kept.squares in
-    let quotient : c.div_ceil.result ≡ div_ceil (total_square c.args.items.now) (total_weight c.args.items.now) = rw (sym weight, sym squares) c.div_ceil.ensures in
+    let quotient : c.mean_of.result ≡ div_ceil (total_square c.args.items.now) (total_weight c.args.items.now) = rw (sym weight, sym squares) c.mean_of.ensures in
     let root = c.ceil_root.ensures in
     root_is c.args.items.now c.ceil_root.result (omega (arith, c.requires.weight)) (rw quotient at root.enough) (rw quotient at root.least)

@@ -1,12 +1,11 @@
 use Rattle.std.proofs.Common.{rules, ◌≡◌, SFits, w64, sym, ◌∙◌, ap, map}
 use Rattle.std.specs.Prelude.{All}
 use Rattle.std.proofs.lemmas.Int.{to_z-of_z}
-use Rattle.edt_score.specs.declared.problem.ProblemPick.{ProblemPick}
-use Rattle.origin_time.specs.RootMeanSquare.{rms_of, IsResidual}
+use Rattle.origin_time.specs.RootMeanSquare.{rms_of}
 use Rattle.origin_time.specs.OriginTime.{IsOriginTime}
 use Rattle.origin_time.proofs.Functions.{among_items, rms_is}
 use Rattle.location_report.specs.Blocks.{items_at, residual_from, residuals_at}
-use Rattle.location_report.specs.Inside.Locating.{IsNearNode, IsWithinReach}
+use Rattle.location_report.specs.Inside.Locating.{IsNearNode}
 use Rattle.location_report.proofs.LocatingLaws.{light_items, residual_limits, same_weight, some_weight, within_reach}
 use Rattle.location_report.proofs.locating.Origin.of.Goals as goal
 
