@@ -1,3 +1,9 @@
 pub mod ReportLines
 pub mod Reports
+pub mod Commands
+pub mod EventAnswers
+pub mod CheckLines
+pub mod CheckRefusals
+pub mod CheckEndings
+pub mod CheckRuns
 pub mod Inside

@@ -1,6 +1,13 @@
 //! All that `edtcheck` does: `check_run`, from its words and files to its lines, its line of refusal and its status.
 #![tactic(auto)]
 
+mod answer;
+mod checking;
+mod commands;
+mod lines;
+mod refusals;
 mod report;
+mod run;
+mod telling;
 
-pub use report::reading::read_report;
+pub use run::check_run;
