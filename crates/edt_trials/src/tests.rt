@@ -5,7 +5,7 @@ use crate::TableJudge;
 use edt_score::Judge;
 use node_boxes::{BoxBound, Grid, NodeBox, roots};
 use octree_search::{Found, search};
-use std::alloc::Global;
+use std::alloc::{AllocError, Global};
 use std::test::Fail;
 
 /// What a full pair of picks is worth.
@@ -46,6 +46,15 @@ fn along_x(x0: u32, x1: u32, bound: u64) -> BoxBound {
     BoxBound { area, bound }
 }
 
+/// The first node on the x and the y axis of each box of a cover.
+fn corners(alloc: Global, cover: &[BoxBound]) -> Result<Vec<(u32, u32)>, AllocError> {
+    let mut corners = Vec::new(alloc);
+    for b in cover {
+        corners.push((b.area.x0, b.area.y0))?;
+    }
+    Ok(corners)
+}
+
 #[test]
 fn a_table_without_scores_has_no_fit_and_its_root_as_its_cover(
     rt: HostRuntime,
@@ -74,8 +83,25 @@ fn the_first_of_nodes_that_tie_stands_and_the_others_are_near(rt: HostRuntime) -
         return Err("nothing located".into());
     };
     assert_eq!(rt; (event.hyp, event.met, event.near.len()), (0, 23, 15));
-    let order = event.cover.iter().map(|b| 3 * b.area.x0 + b.area.y0);
-    assert!(rt; order.eq([0, 3, 1, 4, 6, 7, 2, 5, 8, 9, 10, 12, 13, 11, 14]));
+    let corners = corners(alloc, &event.cover)?;
+    let order = [
+        (0, 0),
+        (1, 0),
+        (0, 1),
+        (1, 1),
+        (2, 0),
+        (2, 1),
+        (0, 2),
+        (1, 2),
+        (2, 2),
+        (3, 0),
+        (3, 1),
+        (4, 0),
+        (4, 1),
+        (3, 2),
+        (4, 2),
+    ];
+    assert_eq!(rt; corners.as_slice(), &order[..]);
     Ok(())
 }
 
