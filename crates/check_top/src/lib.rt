@@ -9,5 +9,7 @@ mod refusals;
 mod report;
 mod run;
 mod telling;
+#[cfg(test)]
+mod tests;
 
 pub use run::check_run;

@@ -1,8 +1,8 @@
 //! The program `edtcheck`. All that it does is `check_top::check_run`.
 #![tactic(auto)]
 
-use edt_outside::{DirShelf, StdSink, put_all};
 use check_top::check_run;
+use edt_outside::{DirShelf, StdSink, put_all};
 use std::alloc::{AllocError, Global};
 use std::env;
 use std::io::ErrorKind;

@@ -1,0 +1,5 @@
+//! Whole runs over shelves and sinks in memory: the lines of a check, refusals, and calls and writes that fail.
+
+mod refusals;
+mod running;
+mod verdicts;

@@ -1,0 +1,144 @@
+//! What the line of an event says of its certificate.
+
+use super::running::{Change, PROVED, expect_line};
+use std::alloc::Global;
+use std::process::Abort;
+use std::test::Fail;
+
+const NEAR: &str = "NEAR 1\n0 343597383680\n";
+
+const COVER: &str = "COVER 3\n0 1 0 1 0 1 343597383680\n1 2 0 1 0 1 0\n2 4 0 1 0 1 0\n";
+
+const LOCATED: &str =
+    "CERT LOCATED\nBEST 0 343597383680\nNEAR 1\n0 343597383680\nCOVER 3\n0 1 0 1 0 1 343597383680
+1 2 0 1 0 1 0\n2 4 0 1 0 1 0\n";
+
+// Text of the sample's report, what stands in its place, and what the line then says.
+const REFUSED: [(&str, &str, &str); 13] = [
+    (
+        COVER,
+        "COVER 4\n0 1 0 1 0 1 343597383680\n0 1 0 1 0 1 343597383680\n1 2 0 1 0 1 0\n2 4 0 1 0 1 0\n",
+        "TWICE 0",
+    ),
+    (
+        COVER,
+        "COVER 2\n0 1 0 1 0 1 343597383680\n2 4 0 1 0 1 0\n",
+        "UNCOVERED 1",
+    ),
+    (
+        "0 1 0 1 0 1 343597383680",
+        "0 1 0 1 0 1 343597383679",
+        "WRONGBOUND 0",
+    ),
+    (COVER, "COVER 1\n0 4 0 1 0 1 343597383680\n", "NOTCLOSED 0"),
+    ("BEST 0", "BEST 1", "WRONGSCORE 1"),
+    (NEAR, "NEAR 0\n", "NEARWRONG 0"),
+    ("0 1 0 1 0 1", "0 5 0 1 0 1", "OUTSIDE 0"),
+    ("1 2 0 1 0 1 0", "2 2 0 1 0 1 0", "OUTSIDE 1"),
+    (COVER, "COVER 0\n", "UNCOVERED 0"),
+    ("BEST 0", "BEST 4", "WRONGSCORE 4"),
+    (
+        "BEST 0 343597383680",
+        "BEST 0 18446744073709551615",
+        "WRONGSCORE 0",
+    ),
+    (
+        NEAR,
+        "NEAR 2\n0 343597383680\n0 343597383680\n",
+        "NEARWRONG 1",
+    ),
+    (
+        LOCATED,
+        "CERT NOFIT\nCOVER 1\n0 4 0 1 0 1 343597383680\n",
+        "NOTCLOSED 0",
+    ),
+];
+
+#[test]
+fn certificates_are_refused_with_the_first_verdict(rt: HostRuntime) -> Result<(), Fail> {
+    let alloc = rt.alloc();
+    for (old, new, verdict) in REFUSED {
+        let line = format!(in alloc; "CHECK 1 REFUSED {verdict}\n")?;
+        let change = Change::Swap("e1.report", old, new);
+        expect_line(&rt, alloc, &[change], 1, line.as_str())?;
+    }
+    let zero = "CERT NOFIT\nCOVER 1\n0 4 0 1 0 1 0\n";
+    let change = Change::Swap("e1.report", LOCATED, zero);
+    expect_line(&rt, alloc, &[change], 1, "CHECK 1 REFUSED WRONGBOUND 0\n")
+}
+
+#[test]
+fn any_cover_proves_whose_bounds_do(rt: HostRuntime) -> Result<(), Fail> {
+    let alloc = rt.alloc();
+    expect_line(&rt, alloc, &[], 0, PROVED)?;
+    let singles =
+        "COVER 4\n0 1 0 1 0 1 343597383680\n1 2 0 1 0 1 0\n2 3 0 1 0 1 0\n3 4 0 1 0 1 0\n";
+    expect_line(
+        &rt,
+        alloc,
+        &[Change::Swap("e1.report", COVER, singles)],
+        0,
+        PROVED,
+    )
+}
+
+// The sample in which no pair ever fits, and a certificate of that.
+#[test]
+fn no_fit_is_proved_where_no_node_scores(rt: HostRuntime) -> Result<(), Fail> {
+    let changes = [
+        Change::Swap("e1.in", "10.0 0.0 0.0", "11.0 0.0 0.0"),
+        Change::Swap("e1.in", "LOCGRID 4 1 1", "LOCGRID 3 1 1"),
+        Change::Swap("e1.report", LOCATED, "CERT NOFIT\nCOVER 1\n0 3 0 1 0 1 0\n"),
+    ];
+    expect_line(&rt, rt.alloc(), &changes, 0, "CHECK 1 PROVED NOFIT\n")
+}
+
+// With this kernel the nodes 0 and 1 have the same score.
+#[test]
+fn a_later_node_of_the_best_score_is_refused(rt: HostRuntime) -> Result<(), Fail> {
+    let alloc = rt.alloc();
+    let kernel = Change::Swap("e1.in", "LOCGAU", "EDTKERNEL COUNT 1.0\nLOCGAU");
+    let cover = "COVER 3\n0 1 0 1 0 1 343597383680\n1 2 0 1 0 1 343597383680\n2 4 0 1 0 1 0\n";
+    let near = "NEAR 2\n0 343597383680\n1 343597383680\n";
+    let first = [
+        kernel,
+        Change::Swap("e1.report", COVER, cover),
+        Change::Swap("e1.report", NEAR, near),
+    ];
+    let line = "CHECK 1 PROVED 0 0 0 0 10000000 0 0 343597383680 2\n";
+    expect_line(&rt, alloc, &first, 0, line)?;
+    let later = [
+        first[0],
+        first[1],
+        first[2],
+        Change::Swap("e1.report", "BEST 0", "BEST 1"),
+    ];
+    expect_line(&rt, alloc, &later, 1, "CHECK 1 REFUSED NOTFIRST 0\n")
+}
+
+// Without the header of one station the sample's event has one used pick.
+#[test]
+fn kinds_are_held_against_the_event(rt: HostRuntime) -> Result<(), Fail> {
+    let alloc = rt.alloc();
+    let few = Change::Remove("time/a.P.BBB.time.hdr");
+    let many = Change::Swap("e1.in", "EDT 9999.0 2", "EDT 9999.0 3");
+    for (changes, kind, status, words) in [
+        (&[][..], "CERT FEW\n", 1, "REFUSED KIND"),
+        (&[], "CERT MANY\n", 1, "REFUSED KIND"),
+        (&[], "CERT BUDGET\n", 0, "UNPROVED BUDGET"),
+        (&[], "CERT NEARLIMIT\n", 0, "UNPROVED NEARLIMIT"),
+        (&[few], LOCATED, 1, "REFUSED KIND"),
+        (&[few], "CERT BUDGET\n", 1, "REFUSED KIND"),
+        (&[few], "CERT FEW\n", 0, "AGREED FEW"),
+        (&[many], "CERT FEW\n", 0, "AGREED FEW"),
+    ] {
+        let mut all = Vec::new(alloc);
+        for change in changes {
+            all.push(*change)?;
+        }
+        all.push(Change::Swap("e1.report", LOCATED, kind))?;
+        let line = format!(in alloc; "CHECK 1 {words}\n")?;
+        expect_line(&rt, alloc, &all, status, line.as_str())?;
+    }
+    Ok(())
+}
