@@ -129,9 +129,9 @@ const CALLS: [&str; 23] = [
 #[test]
 fn a_call_or_a_write_that_fails_is_told(rt: HostRuntime) -> Result<(), Fail> {
     let alloc = rt.alloc();
-    let mut number = 0;
+    let mut number: u64 = 0;
     for name in CALLS {
-        number += 1;
+        number = number.wrapping_add(1);
         let run = Run {
             failing_calls: &[number],
             ..plain(&[])
