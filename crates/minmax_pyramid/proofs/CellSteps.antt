@@ -9,10 +9,10 @@ use Rattle.node_boxes.specs.declared.node_box.NodeBox.{NodeBox}
 use Rattle.node_boxes.specs.Grid.{GridSize}
 use Rattle.node_boxes.specs.Boxes.{IsNonempty}
 use Rattle.node_boxes.specs.Children.{children_of}
-use Rattle.minmax_pyramid.specs.declared.cell.Cell.{Cell}
+use Rattle.minmax_pyramid.specs.declared.cell.Cell.{Cell, Split'}
 use Rattle.minmax_pyramid.specs.declared.cell.Cell.TheVariants.{One, Split}
 use Rattle.minmax_pyramid.specs.declared.cell.Cell.TheBlock.{hidden-the_row-Cell-Split-2-1-0}
-use Rattle.minmax_pyramid.specs.Inside.Cells.{IsCell, AreCells, is_small}
+use Rattle.minmax_pyramid.specs.Inside.Cells.{IsCell, IsReached, AreCells, is_small}
 use Rattle.minmax_pyramid.specs.Inside.Joins.{joined, lowest, highest, lowest_of, highest_of, reach_of}
 use Rattle.minmax_pyramid.proofs.CellRows.{ZipCells, to_cells, of_cells, zip_at, zip_length, zip_push}
 use Rattle.minmax_pyramid.proofs.JoinSteps.{Joins, min-joins, max-joins, joined_push, lowest-children, highest-children}
@@ -37,26 +37,39 @@ pub of_split : (g : GridSize) (time : ℕ → ℕ) (a : NodeBox) (least greatest
 of_split g time a least greatest kids split =
     (split.large, split.span, to_cells g time (children_of a) kids split.cells)
 
--- `One` stands for the children of its box too
-pub one_kid : (g : GridSize) (time : ℕ → ℕ) (a c : NodeBox) (k : ℕ) (cell : Cell) → cell ≡ One → IsNonempty a
-    → slice_get (children_of a) k ≡ Some c → IsCell g time a cell → IsCell g time c cell
-one_kid g time a c k cell is some at here =
-    let small : IsCell g time a One = subst (IsCell g time a) is here in
-    subst (IsCell g time c) (sym is) (small_part a c (part_at a c k some at) small)
+-- a way down to a box may end at its own cell
+pub cell_reached : (g : GridSize) (time : ℕ → ℕ) (a : NodeBox) (cell : Cell) → IsCell g time a cell → IsReached g time a cell
+cell_reached g time a (One least greatest) here = here.0
+cell_reached g time a (Split' least greatest shape kids) here = here
+
+-- the cell of a small box is where the ways to its children end too
+pub one_kid : (g : GridSize) (time : ℕ → ℕ) (a c : NodeBox) (k : ℕ) (cell : Cell) (least greatest : ℕ)
+    → cell ≡ One least greatest → IsNonempty a → slice_get (children_of a) k ≡ Some c → IsReached g time a cell
+    → IsReached g time c cell
+one_kid g time a c k cell least greatest is some at here =
+    let small : IsReached g time a (One least greatest) = subst (IsReached g time a) is here in
+    subst (IsReached g time c) (sym is) (small_part a c (part_at a c k some at) small)
+
+reached_split : (g : GridSize) (time : ℕ → ℕ) (a : NodeBox) (cell : Cell) (least greatest : ℕ)
+    (kids : Vec (Box Cell Global) Global) → cell ≡ Split least greatest kids → IsReached g time a cell
+    → IsSplit g time a least greatest kids
+reached_split g time a cell least greatest kids is here =
+    let split : IsCell g time a (Split least greatest kids) = subst (IsReached g time a) is here in
+    split_of g time a (Split least greatest kids) least greatest kids refl split
 
 pub split_kid : (g : GridSize) (time : ℕ → ℕ) (a c : NodeBox) (k : ℕ) (cell : Cell) (least greatest : ℕ)
     (kids : Vec (Box Cell Global) Global) (d : Box Cell Global) → cell ≡ Split least greatest kids
-    → slice_get (children_of a) k ≡ Some c → IsCell g time a cell
+    → slice_get (children_of a) k ≡ Some c → IsReached g time a cell
     → (k < length kids.items) × IsCell g time c (get_or kids.items k d).value
 split_kid g time a c k cell least greatest kids d is at here =
     zip_at (λ (a : NodeBox) (b : Box Cell Global). IsCell g time a b.value) (children_of a) kids.items k c d
-    (split_of g time a cell least greatest kids is here).cells at
+    (reached_split g time a cell least greatest kids is here).cells at
 
 pub split_within : (g : GridSize) (time : ℕ → ℕ) (a c : NodeBox) (k : ℕ) (cell : Cell) (least greatest : ℕ)
     (kids : Vec (Box Cell Global) Global) → cell ≡ Split least greatest kids
-    → slice_get (children_of a) k ≡ Some c → IsCell g time a cell → k < length kids.items
+    → slice_get (children_of a) k ≡ Some c → IsReached g time a cell → k < length kids.items
 split_within g time a c k cell least greatest kids is at here =
-    let zip = (split_of g time a cell least greatest kids is here).cells in
+    let zip = (reached_split g time a cell least greatest kids is here).cells in
     omega (
       arith,
       slice_get_within (children_of a) k c at,

@@ -6,16 +6,19 @@ ghost use Rattle.node_boxes.specs.Children.{children_of};
 ghost use Rattle.minmax_pyramid.specs.Spans.{time_in};
 ghost use Rattle.node_boxes.specs.Inside.BoxWalks.{runs_from};
 ghost use Rattle.minmax_pyramid.specs.Inside.Joins.{highest, lowest, reach_of, reach_over};
-ghost use Rattle.minmax_pyramid.specs.Inside.Cells.{IsCell, is_small};
+ghost use Rattle.minmax_pyramid.specs.Inside.Cells.{IsCell, IsReached, is_small};
 
 use node_boxes::{Grid, NodeBox};
 use std::alloc::{AllocError, Global};
 
-/// The octree of one row of times below a box: nothing for a box of at most four nodes on each axis,
-/// else the least and the greatest time of its nodes and the cells of its children, in their order.
+/// The octree of one row of times below a box: the least and the greatest time of its nodes and, where it
+/// has more than four nodes on an axis, the cells of its children, in their order.
 #[derive(Drop)]
 pub enum Cell {
-    One,
+    One {
+        least: u32,
+        greatest: u32,
+    },
     Split {
         least: u32,
         greatest: u32,
@@ -35,7 +38,8 @@ pub(crate) fn build_cell(
     ensures { IfOk result (IsCell grid.now (time_in times.now) area.now) }
 {
     if is_small(area) {
-        return Ok(Cell::One);
+        let (least, greatest) = box_span(grid, times, area);
+        return Ok(Cell::One { least, greatest });
     }
     let children = area.children();
     let mut kids = Vec::with_capacity(alloc, children.len())?;
@@ -46,7 +50,7 @@ pub(crate) fn build_cell(
             break;
         };
         let kid = build_cell(alloc, grid, times, &child)?;
-        let (low, high) = cell_span(grid, times, &child, &kid);
+        let (low, high) = own_span(&kid);
         least = least.min(low);
         greatest = greatest.max(high);
         kids.push(Box::new(alloc, kid)?)?;
@@ -58,15 +62,12 @@ pub(crate) fn build_cell(
     })
 }
 
-/// The least and the greatest time of the nodes of a box with this cell.
-pub(crate) fn cell_span(grid: &Grid, times: &[u32], area: &NodeBox, cell: &Cell) -> (u32, u32)
-    requires times { length times.now ≡ node_count grid.now }
-    requires inside { IsIn grid.now area.now }
-    requires cell { IsCell grid.now (time_in times.now) area.now cell.now }
-    ensures { result ≡ reach_of grid.now (time_in times.now) area.now }
+/// The least and the greatest time of the nodes of the box whose cell this is.
+pub(crate) fn own_span(cell: &Cell) -> (u32, u32)
+    ensures { (g : GridSize) (time : ℕ → ℕ) (a : NodeBox) → IsCell g time a cell.now → result ≡ reach_of g time a }
 {
     match cell {
-        Cell::One => box_span(grid, times, area),
+        Cell::One { least, greatest } => (*least, *greatest),
         Cell::Split {
             least,
             greatest,
@@ -75,10 +76,52 @@ pub(crate) fn cell_span(grid: &Grid, times: &[u32], area: &NodeBox, cell: &Cell)
     }
 }
 
-/// The cell of the child at a place. That of a small box stands for its children too.
+/// The least and the greatest time of the nodes of a box, where the way down to it ends at this cell.
+pub(crate) fn reached_span(grid: &Grid, times: &[u32], area: &NodeBox, cell: &Cell) -> (u32, u32)
+    requires times { length times.now ≡ node_count grid.now }
+    requires inside { IsIn grid.now area.now }
+    requires cell { IsReached grid.now (time_in times.now) area.now cell.now }
+    ensures { result ≡ reach_of grid.now (time_in times.now) area.now }
+{
+    match cell {
+        Cell::One { .. } => box_span(grid, times, area),
+        Cell::Split {
+            least,
+            greatest,
+            ..
+        } => (*least, *greatest),
+    }
+}
+
+/// The least and the greatest time of the nodes of the child at a place, where the way down to its parent
+/// ends at this cell.
+pub(crate) fn child_span(
+    grid: &Grid,
+    times: &[u32],
+    child: &NodeBox,
+    cell: &Cell,
+    place: usize,
+) -> (u32, u32)
+    requires times { length times.now ≡ node_count grid.now }
+    requires inside { IsIn grid.now child.now }
+    ensures { (a : NodeBox) → slice_get (children_of a) place ≡ Some child.now
+        → IsReached grid.now (time_in times.now) a cell.now → result ≡ reach_of grid.now (time_in times.now) child.now }
+{
+    let Cell::Split { kids, .. } = cell else {
+        return low_span(grid, times, child);
+    };
+    if place < kids.len() {
+        own_span(&kids[place])
+    } else {
+        low_span(grid, times, child)
+    }
+}
+
+/// Where the way down to the child at a place ends, if that to its parent ends at this cell: at the cell of
+/// the child, or at that of a small box above it.
 pub(crate) fn kid_of(cell: &Cell, place: usize) -> &Cell
     ensures { (g : GridSize) (time : ℕ → ℕ) (a c : NodeBox) → IsNonempty a
-        → slice_get (children_of a) place ≡ Some c → IsCell g time a cell.now → IsCell g time c result.now }
+        → slice_get (children_of a) place ≡ Some c → IsReached g time a cell.now → IsReached g time c result.now }
 {
     let Cell::Split { kids, .. } = cell else {
         return cell;
@@ -88,6 +131,20 @@ pub(crate) fn kid_of(cell: &Cell, place: usize) -> &Cell
     } else {
         cell
     }
+}
+
+/// The least and the greatest time of the nodes of a box low in the octree, where most are single.
+fn low_span(grid: &Grid, times: &[u32], area: &NodeBox) -> (u32, u32)
+    requires times { length times.now ≡ node_count grid.now }
+    requires inside { IsIn grid.now area.now }
+    ensures { result ≡ reach_of grid.now (time_in times.now) area.now }
+{
+    if area.is_single() {
+        let node = grid.node_number(area.x0, area.y0, area.z0);
+        let time = times[node as usize];
+        return (time, time);
+    }
+    box_span(grid, times, area)
 }
 
 /// The least and the greatest time of the nodes of a box.

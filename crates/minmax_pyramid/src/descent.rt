@@ -4,13 +4,13 @@ ghost use Rattle.node_boxes.specs.Boxes.{IsIn, IsSplittable};
 ghost use Rattle.node_boxes.specs.Children.{children_of};
 ghost use Rattle.node_boxes.specs.Roots.{holders};
 ghost use Rattle.minmax_pyramid.specs.Spans.{span_of, time_in};
-ghost use Rattle.minmax_pyramid.specs.Inside.Cells.{IsCell};
+ghost use Rattle.minmax_pyramid.specs.Inside.Cells.{IsReached};
 ghost use Rattle.minmax_pyramid.specs.Inside.Below.{IsBelow, IsHolderAt, IsHolderPlace};
 
-use crate::cell::{Cell, cell_span, kid_of};
+use crate::cell::{Cell, kid_of, reached_span};
 use node_boxes::{Grid, NodeBox};
 
-/// The span of a box that is `area` or lies in the octree below it. `None` exactly where it is neither.
+/// The span of a box that is `area` or lies in the octree below it, where the way down to `area` ends at this cell. `None` exactly where it is neither.
 pub(crate) fn span_below(
     grid: &Grid,
     times: &[u32],
@@ -20,12 +20,12 @@ pub(crate) fn span_below(
 ) -> Option<(u32, u32)>
     requires times { length times.now ≡ node_count grid.now }
     requires inside { IsIn grid.now area.now }
-    requires cell { IsCell grid.now (time_in times.now) area.now cell.now }
+    requires cell { IsReached grid.now (time_in times.now) area.now cell.now }
     ensures some { IsSome result ↔ IsBelow target.now area.now }
     ensures span { IfSome result (λ span. span ≡ span_of grid.now (time_in times.now) target.now) }
 {
     if is_same(area, target) {
-        return Some(cell_span(grid, times, area, cell));
+        return Some(reached_span(grid, times, area, cell));
     }
     if area.is_single() {
         return None;

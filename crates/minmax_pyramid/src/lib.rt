@@ -1,8 +1,8 @@
 //! The least and the greatest time of each box of an octree.
 //!
 //! A row has one time for each node of a grid. A pyramid keeps, beside the times, the least and the
-//! greatest time of each octree box of more than four nodes on an axis; those of smaller boxes come
-//! from their times.
+//! greatest time of each octree box down to the first of at most four nodes on each axis; those of the
+//! boxes below it come from their times.
 #![tactic(auto)]
 
 mod cell;

@@ -9,9 +9,9 @@ ghost use Rattle.node_boxes.specs.Octree.{IsOctreeBox};
 ghost use Rattle.minmax_pyramid.specs.Spans.{span_of, time_in};
 ghost use Rattle.minmax_pyramid.specs.Families.{AreSpans, FamilyWay, IsFamilyOf, IsWay};
 ghost use Rattle.minmax_pyramid.specs.Rows.{RowTimes, row_times};
-ghost use Rattle.minmax_pyramid.specs.Inside.Cells.{IsCell};
+ghost use Rattle.minmax_pyramid.specs.Inside.Cells.{IsCell, IsReached};
 
-use crate::cell::{Cell, build_cell, cell_span, kid_of};
+use crate::cell::{Cell, build_cell, child_span, kid_of};
 use crate::descent::{root_with, span_below};
 use crate::family::{Family, find_family};
 use crate::root_counts::RootCounts;
@@ -171,10 +171,10 @@ fn build_cells(
     Ok(cells)
 }
 
-/// The cell at the end of a way down.
+/// The cell at which a way down ends.
 fn go_down<'a>(top: &'a Cell, places: &[u8]) -> &'a Cell
     ensures { (g : GridSize) (time : ℕ → ℕ) (a b : NodeBox) → IsWay a places.now b
-        → IsCell g time a top.now → IsCell g time b result.now }
+        → IsReached g time a top.now → IsReached g time b result.now }
 {
     let mut cell = top;
     for place in places {
@@ -183,7 +183,7 @@ fn go_down<'a>(top: &'a Cell, places: &[u8]) -> &'a Cell
     cell
 }
 
-/// Writes the spans of all children of a box with this cell.
+/// Writes the spans of all children of a box, where the way down to it ends at this cell.
 fn fill_spans(
     grid: &Grid,
     times: &[u32],
@@ -196,11 +196,11 @@ fn fill_spans(
     requires inside { IsIn grid.now parent.now }
     requires split { IsSplittable parent.now }
     requires children { children.now ≡ children_of parent.now }
-    requires cell { IsCell grid.now (time_in times.now) parent.now cell.now }
+    requires cell { IsReached grid.now (time_in times.now) parent.now cell.now }
     ensures room { length spans.new ≡ 8 }
     ensures spans { AreSpans grid.now (time_in times.now) parent.now spans.new }
 {
     for place in 0..children.len() {
-        spans[place] = cell_span(grid, times, &children[place], kid_of(cell, place));
+        spans[place] = child_span(grid, times, &children[place], cell, place);
     }
 }

@@ -11,9 +11,9 @@ abbrev pub is_small : NodeBox → Bool
 is_small a = nat_le (a.x1 - a.x0) 4 && nat_le (a.y1 - a.y0) 4 && nat_le (a.z1 - a.z0) 4
 
 abbrev mutual
-  -- `One` for a small box; for another its least and greatest time and the cells of its children
+  -- the least and the greatest time of the box, and for a box that isn't small the cells of its children
   pub IsCell : GridSize → (ℕ → ℕ) → NodeBox → Cell → Type 0
-  IsCell g time a One = is_small a ≡ true
+  IsCell g time a (One least greatest) = (is_small a ≡ true) × ((least, greatest) ≡ reach_of g time a)
   IsCell g time a (Split' least greatest shape kids) =
       (is_small a ≡ false) × ((least, greatest) ≡ reach_of g time a) × AreCells g time (children_of a) kids
 
@@ -23,3 +23,8 @@ abbrev mutual
   AreCells g time (a ∷ areas) (more_of-Cell-Split-2-1 p kid rest) = IsCell g time a kid × AreCells g time areas rest
   AreCells g time [] (more_of-Cell-Split-2-1 p kid rest) = ⊥
   AreCells g time (a ∷ areas) end_of-Cell-Split-2-1 = ⊥
+
+-- where a way down to the box ends: at the cell of a small box above it, or at its own
+abbrev pub IsReached : GridSize → (ℕ → ℕ) → NodeBox → Cell → Type 0
+IsReached g time a (One least greatest) = is_small a ≡ true
+IsReached g time a (Split' least greatest shape kids) = IsCell g time a (Split' least greatest shape kids)

@@ -23,22 +23,18 @@ build_cell-requires t c =
       ),
     )
 
-pub cell_span-low-requires-clause-inside : goal.cell_span-low-requires-clause-inside
-cell_span-low-requires-clause-inside t c =
-    child_inside c.args.grid.now c.args.area.now c.in-Some.child c.children-children.result c.loop-place.place
-    c.requires.inside c.children-children.ensures (sym c.in-Some.ensures)
-
 pub loop-place-preserved : goal.loop-place-preserved
 loop-place-preserved t c =
     let g = c.args.grid.now in
     let time = time_in c.args.times.now in
-    let span = c.cell_span-low.result in
+    let span = c.own_span-low.result in
     let box = c.in_ok-new.field-0 in
+    let own = c.own_span-low.ensures g time c.in-Some.child c.in_ok-kid.ensures in
     let cell : IsCell g time c.in-Some.child box.value = rw c.in_ok-new.ensures.ok c.in_ok-kid.ensures in
     building_more g time c.children-children.result c.loop-place.place c.loop-place.least c.loop-place.greatest
     c.loop-place.kids.items c.in-Some.child box c.min-least.result c.max-greatest.result span.0 span.1
     c.push.new.self.items (sym c.in-Some.ensures) cell
-    (ap (λ (s : ℕ × ℕ). s.0) c.cell_span-low.ensures) (ap (λ (s : ℕ × ℕ). s.1) c.cell_span-low.ensures)
+    (ap (λ (s : ℕ × ℕ). s.0) own) (ap (λ (s : ℕ × ℕ). s.1) own)
     c.min-least.ensures c.max-greatest.ensures c.in_ok-push.ensures.items c.loop-place.invariant
 
 pub returns : goal.returns

@@ -18,7 +18,7 @@ returns-then-is_same-clause-some t c =
 
 pub returns-then-is_same-clause-span : goal.returns-then-is_same-clause-span
 returns-then-is_same-clause-span t c =
-    c.cell_span.ensures
+    c.reached_span.ensures
     ∙ reach-span c.args.grid.now (time_in c.args.times.now) c.args.area.now c.requires.inside (λ node. let fits = c.type_inv.times node in omega arith)
     ∙ ap (span_of c.args.grid.now (time_in c.args.times.now)) (c.is_same.ensures.0 c.if-is_same.true)
 

@@ -6,23 +6,14 @@ use Rattle.minmax_pyramid.proofs.SpanLaws.{reach-span}
 use Rattle.minmax_pyramid.proofs.FamilySteps.{no_box, child_read, children_few, filled_more, filled_end}
 use Rattle.minmax_pyramid.proofs.pyramid_rows.fill_spans.Goals as goal
 
-pub cell_span-requires-clause-inside : goal.cell_span-requires-clause-inside
-cell_span-requires-clause-inside c =
+pub child_span-requires-clause-inside : goal.child_span-requires-clause-inside
+child_span-requires-clause-inside c =
     let parent = c.args.parent.now in
     let children = c.args.children.now in
     let place = c.loop-place.place in
     let at = child_read parent children place c.requires.children (omega arith) in
     part_inside c.args.grid.now parent (get_or children place no_box) c.requires.inside
     (part_at parent (get_or children place no_box) place c.requires.split.nonempty at)
-
-pub cell_span-requires-clause-cell : goal.cell_span-requires-clause-cell
-cell_span-requires-clause-cell c =
-    let parent = c.args.parent.now in
-    let children = c.args.children.now in
-    let place = c.loop-place.place in
-    let at = child_read parent children place c.requires.children (omega arith) in
-    c.kid_of.ensures c.args.grid.now (time_in c.args.times.now) parent (get_or children place no_box)
-    c.requires.split.nonempty at c.requires.cell
 
 pub bounds-spans-place : goal.bounds-spans-place
 bounds-spans-place c =
@@ -38,9 +29,9 @@ loop-place-preserved c =
     let child = get_or children place no_box in
     let at = child_read parent children place c.requires.children (omega arith) in
     let inside = part_inside g parent child c.requires.inside (part_at parent child place c.requires.split.nonempty at) in
-    let is = c.cell_span.ensures
+    let is = c.child_span.ensures parent at c.requires.cell
     ∙ reach-span g time child inside (λ node. let fits = c.type_inv.times node in omega arith) in
-    filled_more (span_of g time) children c.loop-place.spans place child c.cell_span.result
+    filled_more (span_of g time) children c.loop-place.spans place child c.child_span.result
     (ap (λ xs. slice_get xs place) c.requires.children ∙ at) is
     (omega (arith, children_few parent children c.requires.children c.requires.split)) c.loop-place.invariant
 

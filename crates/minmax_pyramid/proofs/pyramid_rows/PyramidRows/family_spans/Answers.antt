@@ -7,6 +7,7 @@ use Rattle.minmax_pyramid.specs.Families.{IsFamilyOf, IsWay}
 use Rattle.minmax_pyramid.specs.Rows.{RowTimes}
 use Rattle.minmax_pyramid.specs.Inside.Cells.{IsCell}
 use Rattle.minmax_pyramid.proofs.CellRows.{zip_length}
+use Rattle.minmax_pyramid.proofs.CellSteps.{cell_reached}
 use Rattle.minmax_pyramid.proofs.FamilySteps.{no_box, way_inside}
 use Rattle.minmax_pyramid.proofs.RowSteps.{all_read, row_read, cell_read}
 use Rattle.minmax_pyramid.proofs.pyramid_rows.PyramidRows.family_spans.Goals as goal
@@ -59,4 +60,4 @@ fill_spans-requires-clause-cell c =
     (sym (get_or_default roots family.root root no_box is.below)) in
     let top : IsCell g time root c.index.result.now = rw (c.index.ensures, c.root.ensures) cell.1 in
     let way : IsWay root c.places.result.now family.parent = rw c.places.ensures (is.down no_box) in
-    rw (c.deref.ensures.value, c.parent.ensures.value) (c.go_down-cell.ensures g time root family.parent way top)
+    rw (c.deref.ensures.value, c.parent.ensures.value) (c.go_down-cell.ensures g time root family.parent way (cell_reached g time root c.index.result.now top))

@@ -9,6 +9,7 @@ use Rattle.minmax_pyramid.specs.Rows.{RowTimes}
 use Rattle.minmax_pyramid.specs.Inside.Cells.{IsCell}
 use Rattle.minmax_pyramid.proofs.BelowSteps.{none_empty, unrooted, below_octree, below_root}
 use Rattle.minmax_pyramid.proofs.CellRows.{zip_length}
+use Rattle.minmax_pyramid.proofs.CellSteps.{cell_reached}
 use Rattle.minmax_pyramid.proofs.RowSteps.{all_read, row_read, cell_read}
 use Rattle.minmax_pyramid.proofs.pyramid_rows.PyramidRows.span.Goals as goal
 
@@ -57,7 +58,9 @@ span_below-requires-clause-cell c =
     let is = row_read c.self.inside.grid roots c.self.inside.rows.items c.args.row row c.self.invariant
     (omega (arith, rows)) c.index-row.ensures in
     let cell = cell_read c.self.inside.grid roots row c.in_ok-place.place c.index.result.now c.index-2.result.now is below c.index.ensures in
-    rw (c.deref-2.ensures.value, c.index-2.ensures) cell.1
+    let reached = cell_reached c.self.inside.grid (time_in row.times.items) c.index.result.now
+    (get_or row.cells.items c.in_ok-place.place c.index-2.result.now) cell.1 in
+    rw (c.deref-2.ensures.value, c.index-2.ensures) reached
 
 pub returns-clause-some : goal.returns-clause-some
 returns-clause-some c =
