@@ -1,8 +1,11 @@
 ghost use Rattle.std.specs.Prelude.{◌≡◌, ◌+◌, ◌^◌, ◌<◌, ◌≤◌, [], ◌∷◌, ◌++◌, All, length, IfOk, IfSome, OnErr, OnOk};
+ghost use Rattle.node_boxes.specs.Boxes.{IsIn};
+ghost use Rattle.node_boxes.specs.BoxNodes.{box_nodes};
 ghost use Rattle.node_boxes.specs.Grid.{node_count};
 ghost use Rattle.node_boxes.specs.Octree.{IsOctreeBox};
 ghost use Rattle.node_boxes.specs.Roots.{AreRoots};
 ghost use Rattle.minmax_pyramid.specs.Families.{IsChildAt, IsFamilyOf};
+ghost use Rattle.minmax_pyramid.specs.Spans.{span_over};
 ghost use Rattle.edt_score.specs.BoxBound.{box_spans};
 ghost use Rattle.edt_score.specs.Field.{FieldTimes, IsField, IsRow, time_at};
 ghost use Rattle.edt_score.specs.Inside.Families.{AreRowSpans};
@@ -78,6 +81,16 @@ impl Field {
         self.pyramids
             .span(row as usize, area)
             .unwrap_or((0, u32::MAX))
+    }
+
+    /// The least and the greatest time of a row at the nodes of a box of any grid with as many nodes.
+    pub(crate) fn span_in(&self, row: u32, grid: &Grid, area: &NodeBox) -> (u32, u32)
+        requires row { row < length self.now.rows }
+        requires nodes { node_count grid.now ≡ node_count self.now.grid }
+        requires inside { IsIn grid.now area.now }
+        ensures { result ≡ span_over (time_at self.now row) (box_nodes grid.now area.now) }
+    {
+        self.pyramids.span_in(row as usize, grid, area)
     }
 
     /// The family of a box and its place among the children. `None` for a root, and it may come for

@@ -1,18 +1,25 @@
 //! What a checker asks: the travel time of a pick at a node.
 
-ghost use Rattle.std.specs.Prelude.{◌≡◌, All};
+ghost use Rattle.std.specs.Prelude.{◌≡◌, ◌<◌, All, length};
+ghost use Rattle.node_boxes.specs.Boxes.{IsIn};
+ghost use Rattle.node_boxes.specs.BoxNodes.{box_nodes};
 ghost use Rattle.edt_score.specs.Field.{IsRow};
 ghost use Rattle.edt_score.specs.Problem.{IsValidProblem};
 
 use crate::field::Field;
 use crate::problem::Problem;
+use node_boxes::{Grid, NodeBox};
 
-/// Travel times of picks at nodes, one at a time.
+/// Travel times of picks at nodes, by the node or over a box.
 ///
 /// A look-up means a number of picks, a number of nodes, a time of at most 2,000,000,000 microseconds
 /// for each pick and each node, and how often it was asked. No call changes the numbers or the times.
 pub trait Look {
-    ghost use Rattle.std.specs.Prelude.{◌≡◌, ℕ, ◌+◌, ◌^◌, ◌<◌, ◌≤◌};
+    ghost use Rattle.std.specs.Prelude.{◌≡◌, ℕ, ◌+◌, ◌^◌, ◌<◌, ◌≤◌, length};
+    ghost use Rattle.node_boxes.specs.Boxes.{IsIn};
+    ghost use Rattle.node_boxes.specs.BoxNodes.{box_nodes};
+    ghost use Rattle.node_boxes.specs.Grid.{node_count};
+    ghost use Rattle.minmax_pyramid.specs.Spans.{span_over};
 
     /// How many picks it has times of.
     ghost picks: { Self → ℕ };
@@ -34,6 +41,20 @@ pub trait Look {
         ensures same_nodes { nodes self.new ≡ nodes self.old }
         ensures same_times { times self.new ≡ times self.old }
         ensures looked { count self.new ≡ count self.old + 1 };
+
+    /// The least and the greatest travel time of a pick at the nodes of a box, each of which is looked up
+    /// once. The grid is any with the number of nodes. Takes no memory.
+    fn span(&mut self, pick: u32, grid: &Grid, area: &NodeBox) -> (u32, u32)
+        requires pick { pick < picks self.old }
+        requires nodes { nodes self.old ≡ node_count grid.now }
+        requires inside { IsIn grid.now area.now }
+        requires room { count self.old + length (box_nodes grid.now area.now) < 2 ^ 64 }
+        ensures value { result ≡ span_over (times self.old pick) (box_nodes grid.now area.now) }
+        // nothing changes but the count
+        ensures same_picks { picks self.new ≡ picks self.old }
+        ensures same_nodes { nodes self.new ≡ nodes self.old }
+        ensures same_times { times self.new ≡ times self.old }
+        ensures looked { count self.new ≡ count self.old + length (box_nodes grid.now area.now) };
 
     /// How often it was asked for a time.
     fn looked(&self) -> u64
@@ -91,9 +112,25 @@ impl<'a> Look for FieldLook<'a> {
         self.field.time(self.problem.picks[pick as usize].row, node)
     }
 
+    fn span(&mut self, pick: u32, grid: &Grid, area: &NodeBox) -> (u32, u32) {
+        self.looked += box_count(grid, area);
+        let row = self.problem.picks[pick as usize].row;
+        self.field.span_in(row, grid, area)
+    }
+
     fn looked(&self) -> u64 {
         self.looked
     }
 
     ghost limit = { look_limit };
+}
+
+/// How many nodes a box in a grid has.
+fn box_count(grid: &Grid, area: &NodeBox) -> u64
+    requires { IsIn grid.now area.now }
+    ensures { result ≡ length (box_nodes grid.now area.now) }
+{
+    // what the grid says of its nodes bounds each range
+    let _nodes = grid.nodes();
+    u64::from(area.x1 - area.x0) * (u64::from(area.y1 - area.y0) * u64::from(area.z1 - area.z0))
 }

@@ -3,7 +3,7 @@ ghost use Rattle.node_boxes.specs.declared.node_box.NodeBox.{NodeBox};
 ghost use Rattle.node_boxes.specs.Grid.{GridSize, node_count};
 ghost use Rattle.node_boxes.specs.Boxes.{IsIn, IsNonempty};
 ghost use Rattle.node_boxes.specs.Children.{children_of};
-ghost use Rattle.minmax_pyramid.specs.Spans.{time_in};
+ghost use Rattle.minmax_pyramid.specs.Spans.{span_of, time_in};
 ghost use Rattle.node_boxes.specs.Inside.BoxWalks.{runs_from};
 ghost use Rattle.minmax_pyramid.specs.Inside.Joins.{highest, lowest, reach_of, reach_over};
 ghost use Rattle.minmax_pyramid.specs.Inside.Cells.{IsCell, IsReached, is_small};
@@ -144,6 +144,15 @@ fn low_span(grid: &Grid, times: &[u32], area: &NodeBox) -> (u32, u32)
         let time = times[node as usize];
         return (time, time);
     }
+    box_span(grid, times, area)
+}
+
+/// The span of a box, from the times of all its nodes.
+pub(crate) fn span_by_nodes(grid: &Grid, times: &[u32], area: &NodeBox) -> (u32, u32)
+    requires times { length times.now ≡ node_count grid.now }
+    requires inside { IsIn grid.now area.now }
+    ensures { result ≡ span_of grid.now (time_in times.now) area.now }
+{
     box_span(grid, times, area)
 }
 

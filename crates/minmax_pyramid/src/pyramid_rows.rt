@@ -11,7 +11,7 @@ ghost use Rattle.minmax_pyramid.specs.Families.{AreSpans, FamilyWay, IsFamilyOf,
 ghost use Rattle.minmax_pyramid.specs.Rows.{RowTimes, row_times};
 ghost use Rattle.minmax_pyramid.specs.Inside.Cells.{IsCell, IsReached};
 
-use crate::cell::{Cell, build_cell, child_span, kid_of};
+use crate::cell::{Cell, build_cell, child_span, kid_of, span_by_nodes};
 use crate::descent::{root_with, span_below};
 use crate::family::{Family, find_family};
 use crate::root_counts::RootCounts;
@@ -122,6 +122,18 @@ impl PyramidRows {
             &row.cells[place],
             area,
         )
+    }
+
+    /// The least and the greatest time of a row at the nodes of a box of any grid with as many nodes, from
+    /// the times of all of them. Takes no memory.
+    pub fn span_in(&self, row: usize, grid: &Grid, area: &NodeBox) -> (u32, u32)
+        requires row { row < length self.now.rows }
+        requires nodes { node_count grid.now ≡ node_count self.now.grid }
+        requires inside { IsIn grid.now area.now }
+        ensures { result ≡ span_of grid.now (row_times self.now row) area.now }
+    {
+        let row = &self.rows[row];
+        span_by_nodes(grid, &row.times, area)
     }
 
     /// The family that a box belongs to, with the way down to it. `None` only where it isn't found, as
