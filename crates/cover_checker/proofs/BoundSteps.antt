@@ -13,30 +13,11 @@ use Rattle.edt_score.specs.KeptPairs.{bound_of_spans, span_at}
 use Rattle.edt_score.specs.Look.{numbered, numbered_from}
 use Rattle.cover_checker.specs.Inside.Walks.{AreSpansOf}
 
--- one more time is looked up
-pub least_step : (low time : ℕ) (times : List ℕ) → least (min low time ∷ times) ≡ least (low ∷ (time ∷ times))
-least_step low time [] = refl
-least_step low time (t ∷ ts) = omega arith
-
-pub greatest_step : (high time : ℕ) (times : List ℕ) → greatest (max high time ∷ times) ≡ greatest (high ∷ (time ∷ times))
-greatest_step high time times = omega arith
-
-pub greatest_one : (high : ℕ) → greatest (high ∷ []) ≡ high
-greatest_one high = omega arith
-
--- the least and the greatest once one more node of a list is asked for
-module _ (time : ℕ → ℕ) (first seen next node : ℕ) (nodes rest : List ℕ) (total : ℕ) where
-  pub least_next : nodes ≡ node ∷ rest → seen ≡ time node → next ≡ min first seen → least (first ∷ map time nodes) ≡ total
-      → least (next ∷ map time rest) ≡ total
-  least_next nodes_is seen_is next_is before =
-      ap (λ n. least (n ∷ map time rest)) next_is ∙ least_step first seen (map time rest)
-      ∙ ap (λ t. least (first ∷ (t ∷ map time rest))) seen_is ∙ ap (λ ns. least (first ∷ map time ns)) (sym nodes_is) ∙ before
-
-  pub greatest_next : nodes ≡ node ∷ rest → seen ≡ time node → next ≡ max first seen → greatest (first ∷ map time nodes) ≡ total
-      → greatest (next ∷ map time rest) ≡ total
-  greatest_next nodes_is seen_is next_is before =
-      ap (λ n. greatest (n ∷ map time rest)) next_is ∙ greatest_step first seen (map time rest)
-      ∙ ap (λ t. greatest (first ∷ (t ∷ map time rest))) seen_is ∙ ap (λ ns. greatest (first ∷ map time ns)) (sym nodes_is) ∙ before
+-- the least of some times is at most the greatest
+pub least_most : (ns : List ℕ) → least ns ≤ greatest ns
+least_most [] = omega arith
+least_most (n ∷ []) = omega arith
+least_most (n ∷ (m ∷ ns)) = omega arith
 
 -- the first `n` spans are in order
 abbrev pub AreOrdered : ℕ → List (ℕ × ℕ) → Type 0

@@ -14,7 +14,7 @@ ghost use Rattle.cover_checker.specs.Inside.Cases.{case_falloff, case_grid, case
 use crate::bound_room::BoundRoom;
 use crate::case::Case;
 use edt_score::{KeptPairs, Look};
-use node_boxes::{BoxNodes, Grid, NodeBox};
+use node_boxes::{Grid, NodeBox};
 
 /// The bound of a box that lies in the grid. Each pick's time is looked up once at each node of the box.
 pub(crate) fn box_bound<F: Fn(u64, u64) -> u64, L: Look>(
@@ -88,49 +88,6 @@ fn fill_spans<L: Look>(grid: &Grid, look: &mut L, area: &NodeBox, spans: &mut [(
         ≡ L.count look.old + length spans.old * length (box_nodes grid.now area.now) }
 {
     for i in 0..spans.len() {
-        spans[i] = span(BoxNodes::new(grid, area), look, i as u32);
+        spans[i] = look.span(i as u32, grid, area);
     }
-}
-
-/// The least and the greatest travel time of a pick at some nodes, at least one.
-fn span<L: Look>(mut nodes: BoxNodes, look: &mut L, pick: u32) -> (u32, u32)
-    requires pick { pick < L.picks look.old }
-    requires some { 0 < length nodes }
-    requires inside { All (λ node. node < L.nodes look.old) nodes }
-    requires looks { L.count look.old + length nodes < 2 ^ 64 }
-    ensures value { result ≡ span_over (L.times look.old pick) nodes }
-    ensures times { IsTimeSpan result }
-    ensures same_picks { L.picks look.new ≡ L.picks look.old }
-    ensures same_nodes { L.nodes look.new ≡ L.nodes look.old }
-    ensures same_times { L.times look.new ≡ L.times look.old }
-    ensures looked { L.count look.new ≡ L.count look.old + length nodes }
-{
-    let Some(first) = nodes.next() else {
-        return (0, 0);
-    };
-    let time = look.time(pick, first);
-    span_from(nodes, look, pick, time)
-}
-
-/// The least and the greatest of a travel time and those of a pick at some nodes.
-fn span_from<L: Look>(mut nodes: BoxNodes, look: &mut L, pick: u32, time: u32) -> (u32, u32)
-    requires pick { pick < L.picks look.old }
-    requires inside { All (λ node. node < L.nodes look.old) nodes }
-    requires looks { L.count look.old + length nodes < 2 ^ 64 }
-    ensures least { result.0 ≡ least (time ∷ map (L.times look.old pick) nodes) }
-    ensures greatest { result.1 ≡ greatest (time ∷ map (L.times look.old pick) nodes) }
-    ensures times { IsTimeSpan result }
-    ensures same_picks { L.picks look.new ≡ L.picks look.old }
-    ensures same_nodes { L.nodes look.new ≡ L.nodes look.old }
-    ensures same_times { L.times look.new ≡ L.times look.old }
-    ensures looked { L.count look.new ≡ L.count look.old + length nodes }
-{
-    let mut least = time;
-    let mut greatest = time;
-    while let Some(node) = nodes.next() {
-        let time = look.time(pick, node);
-        least = least.min(time);
-        greatest = greatest.max(time);
-    }
-    (least, greatest)
 }

@@ -1,4 +1,4 @@
-use Rattle.std.proofs.Common.{rules, ◌+◌, ◌<◌, ◌≤◌, ◌∙◌, ap, sym, arith, subst, All, length}
+use Rattle.std.proofs.Common.{◌≡◌, ℕ, map, rules, ◌+◌, ◌<◌, ◌≤◌, ◌∙◌, ap, sym, arith, subst, All, length}
 use Rattle.std.proofs.lemmas.List.{get_or_default}
 use Rattle.minmax_pyramid.specs.Spans.{span_over}
 use Rattle.edt_score.specs.Bound.{IsTimeSpan}
@@ -6,23 +6,8 @@ use Rattle.node_boxes.specs.BoxNodes.{box_nodes}
 use Rattle.node_boxes.proofs.ChildBoxes.{node_count-some}
 use Rattle.node_boxes.proofs.Nodes.{box_nodes-below, box_nodes-length}
 use Rattle.node_boxes.proofs.OctreeBoxes.{in_nonempty}
-use Rattle.cover_checker.proofs.BoundSteps.{looks_step, ordered_step, spans_step}
+use Rattle.cover_checker.proofs.BoundSteps.{least_most, looks_step, ordered_step, spans_step}
 use Rattle.cover_checker.proofs.box_bounds.fill_spans.Goals as goal
-
-pub span-requires-clause-some : goal.span-requires-clause-some
-span-requires-clause-some g c =
-    let grid = c.args.grid.now in
-    let area = c.args.area.now in
-    omega (arith, ap length c.new.ensures, box_nodes-length grid area c.requires.inside, node_count-some area (in_nonempty grid area c.requires.inside))
-
-pub span-requires-clause-inside : goal.span-requires-clause-inside
-span-requires-clause-inside g c =
-    let grid = c.args.grid.now in
-    let area = c.args.area.now in
-    let same = c.loop-i.invariant.nodes in
-    let all = c.requires.nodes in
-    subst (All (λ node. node < g.L.Look.nodes c.loop-i.look)) (sym c.new.ensures)
-    (λ k d below. omega (arith, box_nodes-below grid area k d below, same, all))
 
 pub loop-i-preserved : goal.loop-i-preserved
 loop-i-preserved g c =
@@ -31,16 +16,21 @@ loop-i-preserved g c =
     let i = c.loop-i.i in
     let times = g.L.Look.times c.args.look.now in
     let below : i < length c.loop-i.spans = search rules in
-    let is = c.span.ensures.value ∙ ap (span_over (g.L.Look.times c.loop-i.look i)) c.new.ensures ∙ ap (λ f. span_over (f i) nodes) before.times in
+    let is : c.span.result ≡ span_over (times i) nodes =
+    c.span.ensures.value ∙ ap (λ f. span_over (f i) nodes) before.times in
+    let sound : IsTimeSpan c.span.result = record {
+      order = let most = least_most (map (times i) nodes) in omega (arith, ap (λ (s : ℕ × ℕ). s.0) is, ap (λ (s : ℕ × ℕ). s.1) is, most);
+      limit = let fits = c.span.type_inv in omega arith;
+    } in
     record {
       picks = c.span.ensures.same_picks ∙ before.picks;
       nodes = c.span.ensures.same_nodes ∙ before.nodes;
       times = c.span.ensures.same_times ∙ before.times;
-      count = c.span.ensures.looked ∙ ap (λ n. g.L.Look.count c.loop-i.look + n) (ap length c.new.ensures)
+      count = c.span.ensures.looked
           ∙ looks_step (g.L.Look.count c.args.look.now) i (length nodes) (g.L.Look.count c.loop-i.look) before.count;
       room = search rules;
       spans = spans_step times nodes i c.loop-i.spans c.span.result below is before.spans;
-      sound = ordered_step i c.loop-i.spans c.span.result below c.span.ensures.times before.sound;
+      sound = ordered_step i c.loop-i.spans c.span.result below sound before.sound;
     }
 
 pub returns-clause-times : goal.returns-clause-times
