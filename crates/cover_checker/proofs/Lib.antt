@@ -10,3 +10,4 @@ pub mod PassLaws
 pub mod LocatedSteps
 pub mod ExactLaws
 pub mod FieldSteps
+pub mod SearchLaws

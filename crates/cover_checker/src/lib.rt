@@ -22,7 +22,7 @@ mod tests;
 mod verdict;
 
 pub use field_check::check;
-pub use laws::{near_law, proof_law, verdict_law};
+pub use laws::{near_law, proof_law, search_law, verdict_law};
 pub use look_check::check_look;
 pub use marks::Marks;
 pub use verdict::Verdict;
