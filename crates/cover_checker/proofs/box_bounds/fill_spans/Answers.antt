@@ -1,11 +1,8 @@
-use Rattle.std.proofs.Common.{◌≡◌, ℕ, map, rules, ◌+◌, ◌<◌, ◌≤◌, ◌∙◌, ap, sym, arith, subst, All, length}
+use Rattle.std.proofs.Common.{◌≡◌, ℕ, map, rules, ◌<◌, ◌≤◌, ◌∙◌, ap, arith, subst, length}
 use Rattle.std.proofs.lemmas.List.{get_or_default}
 use Rattle.minmax_pyramid.specs.Spans.{span_over}
 use Rattle.edt_score.specs.Bound.{IsTimeSpan}
 use Rattle.node_boxes.specs.BoxNodes.{box_nodes}
-use Rattle.node_boxes.proofs.ChildBoxes.{node_count-some}
-use Rattle.node_boxes.proofs.Nodes.{box_nodes-below, box_nodes-length}
-use Rattle.node_boxes.proofs.OctreeBoxes.{in_nonempty}
 use Rattle.cover_checker.proofs.BoundSteps.{least_most, looks_step, ordered_step, spans_step}
 use Rattle.cover_checker.proofs.box_bounds.fill_spans.Goals as goal
 
