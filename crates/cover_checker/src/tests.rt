@@ -12,6 +12,7 @@ use edt_text::Lines;
 use kernel_table::{Falloff, Shape, count, gauss};
 use node_boxes::{Grid, roots};
 use std::alloc::{AllocError, Global};
+use std::process::Abort;
 use std::test::Fail;
 
 /// The certificate of the sample.
@@ -289,9 +290,18 @@ fn two_picks(alloc: Global, later: i64) -> Result<Problem, AllocError>
     Ok(Problem { picks })
 }
 
+/// The lines of a text of at most 10,000 bytes.
+fn lines_in(text: &str) -> Result<Lines<'_>, Fail> {
+    if text.len() > 10_000 {
+        return Err(Fail::new("a long text"));
+    }
+    Ok(Lines::new(text.as_bytes()))
+}
+
 /// Checks the certificates of a text, one after another, against what is wanted of each.
 fn assert_verdicts<F: Fn(u64, u64) -> u64>(
-    rt: &HostRuntime,
+    rt: &impl Abort,
+    alloc: Global,
     scorer: &Scorer<F>,
     text: &str,
     wants: &[Verdict],
@@ -299,9 +309,8 @@ fn assert_verdicts<F: Fn(u64, u64) -> u64>(
     requires answers { AnswersItsShape F.Fn (falloff_of scorer.now) }
     requires grid { (field_of scorer.now).grid ≡ grid_size 4 1 1 }
 {
-    let alloc = rt.alloc();
     let mut marks = Marks::new(alloc, scorer.field().grid())?;
-    let mut lines = Lines::new(text.as_bytes());
+    let mut lines = lines_in(text)?;
     for (place, want) in wants.iter().enumerate() {
         let block = read_block(alloc, &mut lines)?;
         let found = check(scorer, 100, &block, &mut marks);
@@ -311,13 +320,17 @@ fn assert_verdicts<F: Fn(u64, u64) -> u64>(
 }
 
 /// The same for the sample.
-fn assert_of_sample(rt: &HostRuntime, text: &str, wants: &[Verdict]) -> Result<(), Fail> {
-    let alloc = rt.alloc();
+fn assert_of_sample(
+    rt: &impl Abort,
+    alloc: Global,
+    text: &str,
+    wants: &[Verdict],
+) -> Result<(), Fail> {
     let field = sample_field(alloc)?;
     let problem = two_picks(alloc, 1_000_000)?;
     let gaussian = Falloff::new(Shape::Gauss, |misfit, scale| gauss(misfit, scale));
     let scorer = Scorer::new(alloc, &field, &problem, &gaussian)?;
-    assert_verdicts(rt, &scorer, text, wants)
+    assert_verdicts(rt, alloc, &scorer, text, wants)
 }
 
 #[test]
@@ -341,7 +354,7 @@ fn the_first_fault_of_a_certificate_of_the_sample_is_found(rt: HostRuntime) -> R
         Verdict::WrongBound(2),
         Verdict::NotClosed(0),
     ];
-    assert_of_sample(&rt, COVERS, &wants)
+    assert_of_sample(&rt, rt.alloc(), COVERS, &wants)
 }
 
 #[test]
@@ -356,7 +369,7 @@ fn a_wrong_hypocentre_or_near_list_is_found(rt: HostRuntime) -> Result<(), Fail>
         Verdict::NearWrong(1),
         Verdict::Proved,
     ];
-    assert_of_sample(&rt, HYPOCENTRES, &wants)
+    assert_of_sample(&rt, rt.alloc(), HYPOCENTRES, &wants)
 }
 
 #[test]
@@ -369,7 +382,13 @@ fn of_two_nodes_that_tie_the_first_is_the_hypocentre(rt: HostRuntime) -> Result<
         |misfit, _scale| count(1_000_000, misfit),
     );
     let scorer = Scorer::new(alloc, &field, &problem, &counting)?;
-    assert_verdicts(&rt, &scorer, TIES, &[Verdict::NotFirst(0), Verdict::Proved])
+    assert_verdicts(
+        &rt,
+        alloc,
+        &scorer,
+        TIES,
+        &[Verdict::NotFirst(0), Verdict::Proved],
+    )
 }
 
 #[test]
@@ -380,7 +399,7 @@ fn only_an_event_that_fits_nowhere_is_proved_to(rt: HostRuntime) -> Result<(), F
         Verdict::NoClaim,
         Verdict::NoClaim,
     ];
-    assert_of_sample(&rt, CLAIMS, &wants)
+    assert_of_sample(&rt, rt.alloc(), CLAIMS, &wants)
 }
 
 #[test]
@@ -394,7 +413,7 @@ fn an_event_whose_picks_no_node_explains_is_proved_to_fit_nowhere(
     let gaussian = Falloff::new(Shape::Gauss, |misfit, scale| gauss(misfit, scale));
     let scorer = Scorer::new(alloc, &field, &apart, &gaussian)?;
     let text = "CERT NOFIT\nCOVER 1\n0 4 0 1 0 1 0\nEND\n";
-    assert_verdicts(&rt, &scorer, text, &[Verdict::Proved])
+    assert_verdicts(&rt, alloc, &scorer, text, &[Verdict::Proved])
 }
 
 /// What a check finds and how often it looks.
@@ -403,7 +422,7 @@ fn looks(alloc: Global, text: &str) -> Result<(Verdict, u64), Fail> {
     let problem = two_picks(alloc, 1_000_000)?;
     let gaussian = Falloff::new(Shape::Gauss, |misfit, scale| gauss(misfit, scale));
     let mut marks = Marks::new(alloc, field.grid())?;
-    let block = read_block(alloc, &mut Lines::new(text.as_bytes()))?;
+    let block = read_block(alloc, &mut lines_in(text)?)?;
     let mut look = FieldLook::new(&field, &problem);
     let verdict = check_look(
         &problem,
