@@ -1,4 +1,9 @@
 pub mod BestNodes
+pub mod DemoDraws
+pub mod DemoLists
+pub mod DemoPicks
+pub mod DemoRoots
+pub mod DemoRows
 pub mod EndTotals
 pub mod FamilyBounds
 pub mod FamilyEnds

@@ -7,6 +7,7 @@ pub use Rattle.node_boxes.specs.Octree
 pub use Rattle.node_boxes.specs.Roots
 pub use Rattle.minmax_pyramid.specs.Spans
 pub use Rattle.minmax_pyramid.specs.Rows
+pub use Rattle.pair_weights.specs.LeastRoot
 pub use Rattle.pair_weights.specs.Scale
 pub use Rattle.pair_weights.specs.Weight
 pub use Rattle.kernel_table.specs.Kernel
@@ -24,4 +25,5 @@ pub mod Judging
 pub mod PyramidJudge
 pub mod Look
 pub mod KeptPairs
+pub mod Demo
 pub mod Inside

@@ -6,6 +6,7 @@
 //! the origin time of the event cancels. Scale, weight and kernel are this project's own.
 #![tactic(auto)]
 
+mod demo;
 mod ends;
 mod family;
 mod field;
@@ -24,6 +25,7 @@ mod totals;
 mod used_rows;
 mod values;
 
+pub use demo::{Demo, demo_law, demo_problem, draw};
 pub use field::Field;
 pub use judge::Judge;
 pub use kept_pairs::KeptPairs;

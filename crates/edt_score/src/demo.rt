@@ -1,0 +1,286 @@
+//! A problem made from a number.
+ghost use Rattle.std.specs.Prelude.{◌≡◌, ℕ, ◌%◌, ◌<◌, ◌≤◌, [], All, length, map, IfOk, OnOk};
+ghost use Rattle.node_boxes.specs.Grid.{node_count};
+ghost use Rattle.node_boxes.specs.GridOrder.{all_nodes, node_number};
+ghost use Rattle.edt_score.specs.Demo.{cube, demo_field, demo_picks, demo_source, draw, least_root, next_state, squared_distance, state_after, station_row, stations, time_over};
+ghost use Rattle.pair_weights.specs.LeastRoot.{IsLeastRoot};
+ghost use Rattle.edt_score.specs.Problem.{IsValidProblem};
+ghost use Rattle.edt_score.specs.Inside.DemoParts.{IsEarlyPick, greatest_square, pick_from, place_drawn, time_from, times_over};
+
+use crate::field::Field;
+use crate::problem::{Problem, ProblemPick};
+use node_boxes::{Grid, roots};
+use pair_weights::ceil_root;
+use std::alloc::{AllocError, Global};
+
+const STATIONS: u32 = 12;
+
+/// A problem made from a number, with the field of its travel times.
+#[derive(Drop)]
+pub struct Demo {
+    /// A cube of nodes under one root, with a row of travel times for each of 12 stations.
+    pub field: Field,
+    /// One pick of each station, in the order of the rows.
+    pub problem: Problem,
+    /// The number of the source's node.
+    pub source: u32,
+}
+
+/// A draw of the generator: it sets the state to `state * 6364136223846793005 + 1442695040888963407`
+/// modulo 2^64, and answers the upper 32 bits of the new state.
+pub fn draw(state: &mut u64) -> u32
+    ensures state { state.new ≡ next_state state.old }
+    ensures answer { result ≡ draw state.old }
+{
+    *state = state
+        .wrapping_mul(6_364_136_223_846_793_005)
+        .wrapping_add(1_442_695_040_888_963_407);
+    (*state >> 32) as u32
+}
+
+/// The problem that a seed makes in a cube with `side` nodes on each axis.
+///
+/// Draws of the generator place 12 stations at the surface and a source, and add a noise of 0 to
+/// `1000 * (side - 1)` microseconds to each pick. A wave takes 170,000 microseconds from a node to
+/// the next. Each pick has the weight 1000 and the variance 20,000,000,000. Want of memory is the
+/// only refusal.
+pub fn demo_problem(alloc: Global, seed: u64, side: u32) -> Result<Demo, AllocError>
+    requires some { 1 ≤ side }
+    requires few { side ≤ 64 }
+
+    // What it makes.
+    ensures field { IfOk result (λ demo. demo.field ≡ demo_field seed side) }
+    ensures picks { IfOk result (λ demo. demo.problem.picks.items ≡ demo_picks seed side) }
+    ensures source { IfOk result (λ demo. demo.source ≡ demo_source seed side) }
+
+    // The problem can be searched, and the source is a node of the cube.
+    ensures grid { IfOk result (λ demo. demo.field.grid ≡ cube side) }
+    ensures valid { IfOk result (λ demo. IsValidProblem demo.field demo.problem) }
+    ensures node { IfOk result (λ demo. demo.source < node_count demo.field.grid) }
+{
+    let grid = Grid::new(side, side, side).unwrap();
+    let roots = roots(alloc, &grid, 1, 1, 1)?;
+    let mut field = Field::new(alloc, grid, roots)?;
+    let mut state = seed;
+    add_stations(alloc, &mut state, side, &mut field)?;
+    let source = draw_node(&mut state, &grid);
+    let picks = draw_picks(alloc, &mut state, side, &field, source)?;
+    Ok(Demo {
+        field,
+        problem: Problem { picks },
+        source,
+    })
+}
+
+/// A draw modulo `n`.
+fn draw_below(state: &mut u64, n: u32) -> u32
+    requires some { 1 ≤ n }
+    ensures state { state.new ≡ next_state state.old }
+    ensures answer { result ≡ draw state.old % n }
+    ensures below { result < n }
+{
+    draw(state) % n
+}
+
+/// Adds the rows of 12 stations, each at a place that two draws give.
+fn add_stations(
+    alloc: Global,
+    state: &mut u64,
+    side: u32,
+    field: &mut Field,
+) -> Result<(), AllocError>
+    requires some { 1 ≤ side }
+    requires few { side ≤ 64 }
+    requires cube { field.old.grid ≡ cube side }
+    requires empty { field.old.rows ≡ [] }
+    ensures rows { OnOk result
+        (field.new ≡ record field.old { rows = map (station_row state.old side) stations }) }
+    ensures state { OnOk result (state.new ≡ state_after state.old 24) }
+{
+    let times = times_over(alloc, side)?;
+    for _station in 0..STATIONS {
+        let x = draw_below(state, side);
+        let y = draw_below(state, side);
+        let row = row_from(alloc, side, field.grid(), &times, x, y)?;
+        field.push_row(row)?;
+    }
+    Ok(())
+}
+
+/// The travel times over all distances in a cube, by their squares.
+fn times_over(alloc: Global, side: u32) -> Result<Vec<u32>, AllocError>
+    requires some { 1 ≤ side }
+    requires few { side ≤ 64 }
+    ensures times { IfOk result (λ times. times.items ≡ times_over side) }
+    ensures limit { IfOk result (λ times. All (λ time. time ≤ 2000000000) times.items) }
+{
+    let squares = 3 * ((side - 1) * (side - 1)) + 1;
+    let mut times = Vec::with_capacity(alloc, squares as usize)?;
+    for square in 0..squares {
+        times.push(time_over(square))?;
+    }
+    Ok(times)
+}
+
+/// The travel time over a distance in a cube, by its square.
+fn time_over(square: u32) -> u32
+    requires few { square ≤ 11907 }
+    ensures time { result ≡ time_over square }
+    ensures limit { result ≤ 2000000000 }
+{
+    ceil_root(28_900_000_000 * u64::from(square)) as u32
+}
+
+/// The travel times from a place at the surface of a cube to all its nodes.
+fn row_from(
+    alloc: Global,
+    side: u32,
+    grid: &Grid,
+    times: &[u32],
+    x: u32,
+    y: u32,
+) -> Result<Vec<u32>, AllocError>
+    requires few { side ≤ 64 }
+    requires cube { grid.now ≡ cube side }
+    requires times { times.now ≡ times_over side }
+    requires limit { All (λ time. time ≤ 2000000000) times.now }
+    requires x { x < side }
+    requires y { y < side }
+    ensures times { IfOk result (λ row.
+        row.items ≡ map (time_from grid.now (x, y, 0)) (all_nodes (node_count grid.now))) }
+    ensures limit { IfOk result (λ row. All (λ time. time ≤ 2000000000) row.items) }
+{
+    let nodes = grid.nodes();
+    let mut row = Vec::with_capacity(alloc, nodes as usize)?;
+    for node in 0..nodes {
+        let square = squared_distance(side, x, y, grid.place(node));
+        row.push(times[square as usize])?;
+    }
+    Ok(row)
+}
+
+/// The square of the distance of a place at the surface of a cube and a place in it.
+fn squared_distance(side: u32, x: u32, y: u32, place: (u32, u32, u32)) -> u32
+    requires few { side ≤ 64 }
+    requires x { x < side }
+    requires y { y < side }
+    requires place_x { place.0 < side }
+    requires place_y { place.1 < side }
+    requires place_z { place.2 < side }
+    ensures value { result ≡ squared_distance (x, y, 0) place }
+    ensures limit { result ≤ greatest_square side }
+{
+    let dx = x.abs_diff(place.0);
+    let dy = y.abs_diff(place.1);
+    dx * dx + dy * dy + place.2 * place.2
+}
+
+/// A node at a place that three draws give.
+fn draw_node(state: &mut u64, grid: &Grid) -> u32
+    ensures node { let place = place_drawn grid.now state.old in
+        result ≡ node_number grid.now place.0 place.1 place.2 }
+    ensures below { result < node_count grid.now }
+    ensures state { state.new ≡ state_after state.old 3 }
+{
+    let x = draw_below(state, grid.x());
+    let y = draw_below(state, grid.y());
+    let z = draw_below(state, grid.z());
+    grid.node_number(x, y, z)
+}
+
+/// A pick of each station, with a noise that one draw gives.
+fn draw_picks(
+    alloc: Global,
+    state: &mut u64,
+    side: u32,
+    field: &Field,
+    source: u32,
+) -> Result<Vec<ProblemPick>, AllocError>
+    requires some { 1 ≤ side }
+    requires few { side ≤ 64 }
+    requires rows { length field.now.rows ≡ 12 }
+    requires source { source < node_count field.now.grid }
+    ensures picks { IfOk result (λ picks.
+        picks.items ≡ map (pick_from field.now source side state.old) stations) }
+    ensures early { IfOk result (λ picks. All (IsEarlyPick field.now) picks.items) }
+{
+    let mut picks = Vec::with_capacity(alloc, STATIONS as usize)?;
+    for row in 0..STATIONS {
+        let noise = draw_below(state, 1000 * (side - 1) + 1);
+        picks.push(ProblemPick {
+            time: i64::from(field.time(row, source) + noise),
+            weight: 1000,
+            variance: 20_000_000_000,
+            row,
+        })?;
+    }
+    Ok(picks)
+}
+
+/// The travel time over a distance is the least number of microseconds whose square is large enough.
+pub fn demo_law()
+    ensures root { (n : ℕ) → IsLeastRoot n (least_root n) }
+{}
+
+#[cfg(test)]
+mod tests {
+    use super::*;
+    use std::process::Abort;
+    use std::test::Fail;
+
+    #[test]
+    fn draws_answer_from_the_new_state(rt: HostRuntime) {
+        for (seed, first, state, second) in [
+            (0, 335_903_614, 1_442_695_040_888_963_407, 436_792_849),
+            (1, 1_817_669_548, 7_806_831_264_735_756_412, 2_187_888_307),
+            (
+                u64::MAX,
+                3_149_104_977,
+                13_525_302_890_751_722_018,
+                2_980_664_687,
+            ),
+        ] {
+            let mut now = seed;
+            assert_eq!(rt; draw(&mut now), first, "the first draw from {seed}");
+            assert_eq!(rt; now, state, "the state after {seed}");
+            assert_eq!(rt; draw(&mut now), second, "the second draw from {seed}");
+        }
+    }
+
+    /// The node of the source, the times of the first and the last pick, and the travel time from the
+    /// last station to the last node.
+    fn told(
+        rt: &impl Abort,
+        alloc: Global,
+        seed: u64,
+        side: u32,
+    ) -> Result<(u32, i64, i64, u32), Fail>
+        requires some { 1 ≤ side }
+        requires few { side ≤ 64 }
+    {
+        let demo = demo_problem(alloc, seed, side)?;
+        assert_eq!(rt; demo.field.rows(), 12);
+        assert_eq!(rt; demo.problem.picks.len(), 12);
+        let last = demo.field.grid().nodes() - 1;
+        Ok((
+            demo.source,
+            demo.problem.picks[0].time,
+            demo.problem.picks[11].time,
+            demo.field.time(11, last),
+        ))
+    }
+
+    #[test]
+    fn makes_the_problem_of_a_seed(rt: HostRuntime) -> Result<(), Fail> {
+        let alloc = rt.alloc();
+        assert_eq!(rt; told(&rt, alloc, 7, 1)?, (0, 0, 0, 0));
+        assert_eq!(rt; told(&rt, alloc, 0, 2)?, (0, 170_617, 240_629, 170_000));
+        assert_eq!(rt; told(&rt, alloc, 5, 3)?, (12, 240_736, 422, 416_414));
+        assert_eq!(rt; told(&rt, alloc, 1, 5)?, (89, 680_790, 723_197, 915_479));
+        assert_eq!(rt;
+            told(&rt, alloc, u64::MAX, 64)?,
+            (238_331, 13_678_623, 14_578_346, 15_501_726)
+        );
+        Ok(())
+    }
+}
