@@ -60,7 +60,7 @@ ended_own ending values (Ok true) Has is none refused written =
     let whole = written.whole refl in
     let both : Ok whole.0 ≡ Ok values = sym whole.1 ∙ is in
     let same : whole.0 ≡ values = cc both in
-    let no : 0 ≡ 1 = ap done_status (sym (ap some_refused same ∙ none)) ∙ whole.2.0 in
+    let no : 0 ≡ 1 = ap done_status (sym (ap some_refused same ∙ none)) ∙ whole.2 in
     absurd (cc no)
 
 -- the input is refused
