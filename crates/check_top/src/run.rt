@@ -37,6 +37,8 @@ const MOST_REPORT_BYTES: usize = 268_435_456;
 /// says: the hypocentre of a located event is then the first of all nodes that no node exceeds in score, and its list of near nodes is
 /// that of all nodes; and where the event fits nowhere every node scores 0. It says `AGREED` where the event has few or many used picks
 /// and the report says so, `UNPROVED` where the certificate claims nothing, and else `REFUSED` and why. Other words have no shape.
+/// Where the report is what `edtloc locate` writes for the same files, and within its limit, no line is `REFUSED`, and the status is 0,
+/// 6, 7 or 8.
 ///
 /// | status | comes |
 /// |---|---|
@@ -73,7 +75,8 @@ pub fn check_run<S: Shelf, O: Sink, E: Sink>(
         → (Rose (S.faults shelf.old) (S.faults shelf.new) → ⊥) → (Rose (O.faults out.old) (O.faults out.new) → ⊥)
         → IsTrue (is_one_of result (0 ∷ 1 ∷ 6 ∷ [])))) }
 
-    // What was written and what was told: on every shelf what the lines say is true of the input that was read.
+    // What was written and what was told: on every shelf what the lines say is true of the input that was read, and
+    // where the shelf tells its files, a report that is the run's own text has no faulty line and no refused certificate.
     ensures proves { IfSome (S.files shelf.old) (λ files. IfSome (command_of (map string_bytes words.now)) (λ command.
         IsTrue (is_one_of result (0 ∷ 1 ∷ [])) → EndsTrue files command)) }
     ensures own { IfSome (S.files shelf.old) (λ files. IfSome (command_of (map string_bytes words.now)) (λ command.
