@@ -1,6 +1,5 @@
 -- No certificate that a run that locates writes is refused.
-use Rattle.std.proofs.Common.{◌≡◌, ℕ, true, false, Bool, List, [], ◌∷◌, map, zip, refl, sym, ◌∙◌, ap}
-use Rattle.std.specs.Prelude.{◌||◌}
+use Rattle.std.proofs.Common.{◌≡◌, ℕ, false, List, [], ◌∷◌, map, zip, refl, ap}
 use Rattle.std.specs.List.{list_any}
 use Rattle.node_boxes.specs.Roots.{AreRoots}
 use Rattle.control_reader.specs.ControlValues.{ControlValues}
@@ -16,7 +15,7 @@ use Rattle.location_report.specs.Blocks.{certificate_of, certificate_value}
 use Rattle.location_report.specs.Texts.{outcome_of_case, outcome_of_picks}
 use Rattle.run_input.specs.Inputs.{InputValues}
 use Rattle.check_top.specs.CheckEndings.{event_answer, some_refused, values_of}
-use Rattle.check_top.specs.EventAnswers.{ProvesEvent, ProvesNoFit, answer_of, is_refused, ready_answer, unless_refused}
+use Rattle.check_top.specs.EventAnswers.{answer_of, is_refused, ready_answer}
 use Rattle.check_top.specs.OwnReports.{own_block, own_blocks}
 
 -- the certificate of an outcome that is proved isn't refused, and neither is one that claims nothing

@@ -1,7 +1,7 @@
 -- The certificates of what a search finds can be written: they are valid, and their numbers are within their types.
-use Rattle.std.proofs.Common.{◌≡◌, inl, inr, ℕ, zero, suc, ◌+◌, ◌<◌, ◌≤◌, ◌*◌, ◌^◌, ◌==◌, Bool, true, false, List, [], ◌∷◌, length, map, filter, refl, sym, ◌∙◌, ap, subst, arith, nat_lt, if◌then◌else◌}
+use Rattle.std.proofs.Common.{◌≡◌, inl, inr, ℕ, zero, suc, ◌+◌, ◌<◌, ◌≤◌, ◌*◌, ◌^◌, ◌==◌, Bool, true, false, List, [], ◌∷◌, length, map, filter, refl, sym, subst, arith, nat_lt}
 use Rattle.std.specs.Prelude.{◌&&◌, nat_le}
-use Rattle.std.specs.List.{AllByRecursion, list_all, range_with_len}
+use Rattle.std.specs.List.{AllByRecursion, range_with_len}
 use Rattle.std.proofs.lemmas.Bool.Decides.{nat_tests}
 use Rattle.text_terms.proofs.Cases.{by_bool}
 use Rattle.node_boxes.specs.declared.node_box.NodeBox.{NodeBox}
@@ -80,8 +80,22 @@ module _ (g : GridSize) (grid : IsGrid g) (bound : NodeBox → ℕ) (small : (a 
       let x0 : a.x0 < 2000000 = omega (arith, inside.x, x) in
       let y0 : a.y0 < 2000000 = omega (arith, inside.y, y) in
       let z0 : a.z0 < 2000000 = omega (arith, inside.z, z) in
-      rw (from_zero a.x0, from_zero a.x1, from_zero a.y0, from_zero a.y1, from_zero a.z0, from_zero a.z1, from_zero (bound a),
-      fits_node a.x0 x0, fits_node a.x1 x, fits_node a.y0 y0, fits_node a.y1 y, fits_node a.z0 z0, fits_node a.z1 z, fits_score (bound a) (small a)) refl
+      rw (
+        from_zero a.x0,
+        from_zero a.x1,
+        from_zero a.y0,
+        from_zero a.y1,
+        from_zero a.z0,
+        from_zero a.z1,
+        from_zero (bound a),
+        fits_node a.x0 x0,
+        fits_node a.x1 x,
+        fits_node a.y0 y0,
+        fits_node a.y1 y,
+        fits_node a.z0 z0,
+        fits_node a.z1 z,
+        fits_score (bound a) (small a),
+      ) refl
 
   boxes_typed : (boxes : List NodeBox) → AllByRecursion (IsIn g) boxes → AreTypedBoxes (map (bounded bound) boxes)
   boxes_typed [] inside = refl

@@ -1,12 +1,9 @@
 -- The events of an input that was read have plain lines, and certificates that can be written.
-use Rattle.std.proofs.Common.{◌≡◌, ℕ, ◌+◌, ◌<◌, ◌≤◌, ◌^◌, ◌*◌, Bool, true, List, [], ◌∷◌, ◌++◌, length, map, Option, Some, None, Result, Ok, Err, All, IsTrue, refl, sym, ◌∙◌, ap, subst, arith}
-use Rattle.std.specs.Prelude.{◌&&◌, nat_le}
-use Rattle.std.specs.List.{AllByRecursion, list_all}
-use Rattle.std.proofs.lemmas.Bool.Decides.{nat_tests}
+use Rattle.std.proofs.Common.{◌≡◌, ℕ, ◌<◌, ◌≤◌, ◌^◌, ◌*◌, List, [], ◌∷◌, map, Option, Some, None, Result, Ok, Err, All, sym, ◌∙◌, ap, subst, arith}
+use Rattle.std.specs.List.{AllByRecursion}
 use Rattle.std.proofs.lemmas.List.{length-map}
-use Rattle.std.proofs.lemmas.List.Elements.{All-append, All-cons, All-head, All-map, All-nil, All-tail, All-weaker, recursion_from_All}
+use Rattle.std.proofs.lemmas.List.Elements.{All-head, All-map, All-tail, All-weaker}
 use Rattle.std.proofs.Math.Nat.{mul-le-mul}
-use Rattle.text_terms.specs.Names.{is_name, is_name_byte}
 use Rattle.edt_outside.specs.Shelves.{Files}
 use Rattle.node_boxes.specs.declared.node_box.NodeBox.{NodeBox}
 use Rattle.node_boxes.specs.Grid.{GridSize, IsGrid, node_count}
@@ -17,9 +14,8 @@ use Rattle.control_reader.specs.ControlValues.{ControlValues, values_of}
 use Rattle.control_reader.specs.Limits.{IsControl}
 use Rattle.phase_reader.specs.declared.phases.Event.{Event}
 use Rattle.phase_reader.specs.declared.phases.Pick.{Pick}
-use Rattle.phase_reader.specs.Limits.{IsEvent, IsPick}
+use Rattle.phase_reader.specs.Limits.{IsEvent}
 use Rattle.phase_reader.specs.PhaseFile.{picks_of_events}
-use Rattle.cover_certificate.proofs.PartLaws.{both}
 use Rattle.cover_certificate.specs.Blocks.{IsValidBlock}
 use Rattle.cover_certificate.specs.BlockLines.{IsTypedBlock}
 use Rattle.edt_score.specs.BoxBound.{box_bound}
@@ -29,21 +25,17 @@ use Rattle.minmax_pyramid.specs.Spans.{span_over}
 use Rattle.node_boxes.specs.BoxNodes.{box_nodes}
 use Rattle.station_table.specs.declared.keys.GridKey.{GridKey}
 use Rattle.station_table.specs.declared.keys.Place.{Place}
-use Rattle.station_table.specs.declared.picks.Reason.{Reason}
 use Rattle.station_table.specs.declared.picks.Skip.{Skip}
 use Rattle.station_table.specs.declared.picks.UsedPick.{UsedPick}
-use Rattle.station_table.specs.Keys.{key_for, key_of, wanted_keys}
-use Rattle.station_table.specs.Stations.{phase_of, station_of}
-use Rattle.station_table.specs.Using.{if_skipped, reason_of, skip, skipped_picks, used_pick, used_pick_at, used_picks}
+use Rattle.station_table.specs.Keys.{wanted_keys}
 use Rattle.event_assembly.specs.declared.assembly.Case.{Case}
 use Rattle.event_assembly.specs.declared.assembly.Case.TheVariants.{Ready as ready_case, Few as few_case, Many as many_case}
 use Rattle.event_assembly.specs.declared.assembly.Prepared.{Prepared}
 use Rattle.event_assembly.specs.declared.faults.AssembleFault.{AssembleFault}
-use Rattle.event_assembly.specs.Assembled.{IsAssembled, IsCaseOf, IsPrepared}
+use Rattle.event_assembly.specs.Assembled.{IsCaseOf, IsPrepared}
 use Rattle.event_assembly.specs.Assembling.{assemble_fault, rows_of}
 use Rattle.event_assembly.specs.AssemblyValues.{AssemblyValues, EventValues, assembly_of, case_value, event_of, event_value, events_of, unless_fault, values_by}
 use Rattle.event_assembly.specs.Headers.{places_of}
-use Rattle.location_report.specs.BlockForms.{has_names, skip_has_names}
 use Rattle.location_report.specs.Blocks.{certificate_value}
 use Rattle.location_report.specs.Texts.{outcome_of_case}
 use Rattle.run_input.specs.declared.input.RunInput.{RunInput}

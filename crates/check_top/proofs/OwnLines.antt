@@ -16,7 +16,7 @@ use Rattle.cover_certificate.proofs.WordLaws.{number_of-decimal, plain-decimal, 
 use Rattle.event_assembly.specs.AssemblyValues.{EventValues}
 use Rattle.location_report.specs.Blocks.{first_line}
 use Rattle.location_report.specs.Lines.{event_line, line_of}
-use Rattle.check_top.specs.ReportLines.{each_fits, event_cause, event_form, has_form, head_cause, head_form, is_number, number_at, words_cause}
+use Rattle.check_top.specs.ReportLines.{each_fits, event_cause, event_form, has_form, head_cause, head_form, is_number, words_cause}
 
 -- a number of 32 bits has 64
 wide : (n : ℕ) → n < 2 ^ 32 → n < 2 ^ 64
@@ -46,8 +46,14 @@ head_fits : (events control phases : ℕ) → events < 2 ^ 32 → control < 2 ^ 
 head_fits events control phases a b c =
     fitting head_form (head_words events control phases)
     (rw (plain-decimal events (wide events a), plain-decimal control (wide control b), plain-decimal phases (wide phases c)) refl)
-    (rw (reads-decimal events (wide events a), reads-decimal control (wide control b), reads-decimal phases (wide phases c), lt-ltb events (2 ^ 32) a, lt-ltb control (2 ^ 32) b,
-    lt-ltb phases (2 ^ 32) c) refl)
+    (rw (
+      reads-decimal events (wide events a),
+      reads-decimal control (wide control b),
+      reads-decimal phases (wide phases c),
+      lt-ltb events (2 ^ 32) a,
+      lt-ltb control (2 ^ 32) b,
+      lt-ltb phases (2 ^ 32) c,
+    ) refl)
 
 -- the head line has no cause
 pub head_read : (events control phases : ℕ) → events < 2 ^ 32 → control < 2 ^ 32 → phases < 2 ^ 32
@@ -77,8 +83,14 @@ event_fits : (number used skipped : ℕ) → number < 2 ^ 32 → used < 2 ^ 32 �
 event_fits number used skipped a b c =
     fitting event_form (event_words number used skipped)
     (rw (plain-decimal number (wide number a), plain-decimal used (wide used b), plain-decimal skipped (wide skipped c)) refl)
-    (rw (reads-decimal number (wide number a), reads-decimal used (wide used b), reads-decimal skipped (wide skipped c), lt-ltb number (2 ^ 32) a, lt-ltb used (2 ^ 32) b,
-    lt-ltb skipped (2 ^ 32) c) refl)
+    (rw (
+      reads-decimal number (wide number a),
+      reads-decimal used (wide used b),
+      reads-decimal skipped (wide skipped c),
+      lt-ltb number (2 ^ 32) a,
+      lt-ltb used (2 ^ 32) b,
+      lt-ltb skipped (2 ^ 32) c,
+    ) refl)
 
 -- it has no cause
 pub event_read : (number : ℕ) (event : EventValues) → number < 2 ^ 32 → length event.used < 2 ^ 32 → length event.skipped < 2 ^ 32

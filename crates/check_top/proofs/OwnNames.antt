@@ -1,5 +1,5 @@
 -- The picks of an event have names.
-use Rattle.std.proofs.Common.{◌≡◌, ℕ, ◌<◌, ◌≤◌, ◌^◌, Bool, true, inl, inr, List, [], ◌∷◌, ◌++◌, length, map, take, drop, get_or, Option, Some, None, IfSome, All, IsTrue, refl, arith}
+use Rattle.std.proofs.Common.{◌≡◌, ℕ, ◌<◌, ◌≤◌, ◌^◌, Bool, true, inl, inr, List, [], ◌∷◌, length, map, take, drop, get_or, Option, Some, None, IfSome, All, IsTrue, refl, arith}
 use Rattle.std.specs.Prelude.{◌&&◌, nat_le, unwrap_or}
 use Rattle.std.specs.List.{find, flat_map, list_all, range_with_len}
 use Rattle.std.specs.Option.{option_map}

@@ -7,7 +7,7 @@ use Rattle.cover_certificate.specs.Blocks.{BlockValue, IsLocated, FitsNowhere, H
 use Rattle.cover_certificate.specs.BlockLines.{IsTypedBlock, block_lines, body_lines, ended_line, kind_of_block, text_of_lines}
 use Rattle.cover_certificate.specs.Kinds.{first_bytes}
 use Rattle.cover_certificate.proofs.BlockLaws.{drop_lines}
-use Rattle.cover_certificate.proofs.TextLaws.{AreWhole, lines_back}
+use Rattle.cover_certificate.proofs.TextLaws.{lines_back}
 use Rattle.event_assembly.specs.AssemblyValues.{EventValues}
 use Rattle.location_report.specs.BlockForms.{IsBefore}
 use Rattle.location_report.specs.Blocks.{first_line, lines_between}
