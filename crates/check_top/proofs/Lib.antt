@@ -5,3 +5,10 @@ pub mod LineSteps
 pub mod CheckSteps
 pub mod RunLaws
 pub mod EndingSteps
+pub mod OwnLines
+pub mod OwnSections
+pub mod OwnCertificates
+pub mod OwnNames
+pub mod OwnInputs
+pub mod OwnAnswers
+pub mod OwnRuns

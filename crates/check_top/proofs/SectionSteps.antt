@@ -9,12 +9,12 @@ use Rattle.check_top.specs.ReportLines.{begins_certificate, event_cause, head_ca
 use Rattle.check_top.specs.Reports.{Section, certificate_of, passed_over, report_of, section_of, sections, with_block}
 
 -- a line that begins a certificate isn't passed over
-over_here : (line : LineText) (lines : List LineText) → begins_certificate line ≡ true → passed_over (line ∷ lines) ≡ 0
+pub over_here : (line : LineText) (lines : List LineText) → begins_certificate line ≡ true → passed_over (line ∷ lines) ≡ 0
 unfolding passed_over
 over_here line lines begins = rw begins refl
 
 -- another one is
-over_more : (line : LineText) (lines : List LineText) → begins_certificate line ≡ false → passed_over (line ∷ lines) ≡ suc (passed_over lines)
+pub over_more : (line : LineText) (lines : List LineText) → begins_certificate line ≡ false → passed_over (line ∷ lines) ≡ suc (passed_over lines)
 unfolding passed_over
 over_more line lines other = rw other (omega arith)
 

@@ -6,4 +6,5 @@ pub mod CheckLines
 pub mod CheckRefusals
 pub mod CheckEndings
 pub mod CheckRuns
+pub mod OwnReports
 pub mod Inside

@@ -4,6 +4,7 @@
 mod answer;
 mod checking;
 mod commands;
+mod laws;
 mod lines;
 mod refusals;
 mod report;
@@ -12,4 +13,5 @@ mod telling;
 #[cfg(test)]
 mod tests;
 
+pub use laws::own_law;
 pub use run::check_run;

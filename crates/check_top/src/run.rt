@@ -13,6 +13,7 @@ ghost use Rattle.check_top.specs.CheckEndings.{EndsTrue, check_ending};
 ghost use Rattle.check_top.specs.CheckRefusals.{is_check_cause, is_untold_check, refusal_status, status_after};
 ghost use Rattle.check_top.specs.CheckRuns.{Answers, AreSound, IsWritten, TellsLine};
 ghost use Rattle.check_top.specs.Commands.{command_of, command_value};
+ghost use Rattle.check_top.specs.OwnReports.{IsOwnReport};
 ghost use Rattle.check_top.specs.Inside.Endings.{AreReportBlocks, IsReportBytes, ToldAfter, WritingEnds, status_after_read};
 
 use crate::checking::check_events;
@@ -36,6 +37,8 @@ const MOST_REPORT_BYTES: usize = 268_435_456;
 /// says: the hypocentre of a located event is then the first of all nodes that no node exceeds in score, and its list of near nodes is
 /// that of all nodes; and where the event fits nowhere every node scores 0. It says `AGREED` where the event has few or many used picks
 /// and the report says so, `UNPROVED` where the certificate claims nothing, and else `REFUSED` and why. Other words have no shape.
+/// Where the report is what `edtloc locate` writes for the same files, and within its limit, no line is `REFUSED`, and the status is 0,
+/// 6, 7 or 8.
 ///
 /// | status | comes |
 /// |---|---|
@@ -72,9 +75,12 @@ pub fn check_run<S: Shelf, O: Sink, E: Sink>(
         → (Rose (S.faults shelf.old) (S.faults shelf.new) → ⊥) → (Rose (O.faults out.old) (O.faults out.new) → ⊥)
         → IsTrue (is_one_of result (0 ∷ 1 ∷ 6 ∷ [])))) }
 
-    // What was written and what was told: on every shelf what the lines say is true of the input that was read.
+    // What was written and what was told: on every shelf what the lines say is true of the input that was read, and
+    // where the shelf tells its files, a report that is the run's own text has no faulty line and no refused certificate.
     ensures proves { IfSome (S.files shelf.old) (λ files. IfSome (command_of (map string_bytes words.now)) (λ command.
         IsTrue (is_one_of result (0 ∷ 1 ∷ [])) → EndsTrue files command)) }
+    ensures own { IfSome (S.files shelf.old) (λ files. IfSome (command_of (map string_bytes words.now)) (λ command.
+        IsOwnReport files command → IsTrue (is_one_of result (0 ∷ 6 ∷ 7 ∷ 8 ∷ [])))) }
     ensures sound { IsWritten AreSound result (Wrote O.taken out.old out.new) }
     ensures silent { IsTrue (is_one_of result (2 ∷ 3 ∷ 4 ∷ 5 ∷ 6 ∷ 7 ∷ 9 ∷ 10 ∷ []))
         → O.taken out.new ≡ O.taken out.old }
@@ -121,6 +127,8 @@ fn run<S: Shelf, O: Sink>(
     ensures refused { IfSome (S.files shelf.old) (λ files. IfErr result (λ refusal.
         is_untold_check refusal ≡ false → check_ending files (command_value command.now) ≡ Err refusal)) }
     ensures proves { IfSome (S.files shelf.old) (λ files. OnOk result (EndsTrue files (command_value command.now))) }
+    ensures own { IfSome (S.files shelf.old) (λ files. IsOwnReport files (command_value command.now)
+        → IsTrue (is_one_of (status_after result) (0 ∷ 6 ∷ 7 ∷ 8 ∷ []))) }
     ensures sound { IsWritten AreSound (status_after result) (Wrote O.taken out.old out.new) }
     ensures causes { IfErr result (λ refusal. IsTrue (is_check_cause refusal)) }
     ensures silent { IfErr result (λ refusal. refusal_status refusal ≢ 8 → O.taken out.new ≡ O.taken out.old) }
