@@ -1,4 +1,5 @@
 pub mod SolveLaws
 pub mod LocateLaws
+pub mod DemoLaws
 pub mod StatusLaws
 pub mod RunLaws

@@ -8,7 +8,7 @@ use Rattle.run_input.specs.Refusals.{status_of}
 use Rattle.run_input.specs.Statuses.{is_one_of}
 use Rattle.edt_top.specs.declared.refusals.RunRefusal.{RunRefusal}
 use Rattle.edt_top.specs.declared.refusals.RunRefusal.TheVariants.{Problem, ProblemTooLong, Input, Write}
-use Rattle.edt_top.specs.Commands.{RunCommand, Solve, Locate}
+use Rattle.edt_top.specs.Commands.{RunCommand, Solve, Locate, Demo}
 use Rattle.edt_top.specs.RunEndings.{RunEnding, run_ending}
 use Rattle.edt_top.specs.RunRefusals.{CanRefuse, is_named_run, is_untold_run, run_status, status_after}
 use Rattle.edt_top.specs.Runs.{Answers, HasShortestCovers, IsWritten, TellsLine}
@@ -113,6 +113,10 @@ can_refuse (Locate name) (Problem fault) cause named = cause
 can_refuse (Locate name) ProblemTooLong cause named = cause
 can_refuse (Locate name) (Input refusal) cause named = (cause, named)
 can_refuse (Locate name) Write cause named = cause
+can_refuse (Demo seed side) (Problem fault) cause named = cause
+can_refuse (Demo seed side) ProblemTooLong cause named = cause
+can_refuse (Demo seed side) (Input refusal) cause named = cause
+can_refuse (Demo seed side) Write cause named = cause
 
 line_of_ended : (words : Option RunCommand) (command : RunCommand) (ended : Result (Unit {0}) RunRefusal) (Tells : List ℕ → Type 0) (Stays : Type 0)
     → words ≡ Some command → IfErr ended (HasCause command) → ToldAfter Tells Stays ended → TellsLine words (status_after ended) Tells Stays

@@ -1,5 +1,6 @@
 pub mod Solve
 pub mod Locate
+pub mod Demo
 pub mod Commands
 pub mod RunRefusals
 pub mod RunEndings

@@ -9,7 +9,8 @@ use Rattle.run_input.specs.Inputs.{InputValues, input_of}
 use Rattle.edt_top.specs.declared.refusals.RunRefusal.{RunRefusal}
 use Rattle.edt_top.specs.declared.refusals.RunRefusal.TheVariants.{Problem, ProblemTooLong, Input}
 use Rattle.edt_top.specs.declared.solve.problem_word.ProblemCause.{ProblemCause}
-use Rattle.edt_top.specs.Commands.{RunCommand, Solve, Locate}
+use Rattle.edt_top.specs.Commands.{RunCommand, Solve, Locate, Demo}
+use Rattle.edt_top.specs.Demo.Text.{demo_text}
 use Rattle.edt_top.specs.Locate.Text.{locate_parts}
 use Rattle.edt_top.specs.Solve.ProblemFile.{Words, fault_at}
 use Rattle.edt_top.specs.Solve.Text.{solve_text}
@@ -38,7 +39,12 @@ abbrev pub locate_ending : Result InputValues Refusal → RunEnding
 locate_ending (Ok input) = Ok (locate_parts input)
 locate_ending (Err refusal) = Err (Input refusal)
 
+-- the ending of a seed and a side: its text, in one part
+abbrev pub demo_ending : ℕ → ℕ → RunEnding
+demo_ending seed side = Ok (demo_text seed side ∷ [])
+
 -- the ending of a command
 abbrev pub run_ending : Files → RunCommand → RunEnding
 run_ending files (Solve name) = solve_ending name (files name)
 run_ending files (Locate name) = locate_ending (input_of files name)
+run_ending files (Demo seed side) = demo_ending seed side

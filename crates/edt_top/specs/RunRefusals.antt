@@ -5,7 +5,7 @@ use Rattle.edt_top.specs.declared.refusals.RunRefusal.TheVariants.{Problem, Prob
 use Rattle.edt_top.specs.declared.solve.problem_cursor.ProblemFault.{ProblemFault}
 use Rattle.edt_top.specs.declared.solve.problem_word.ProblemCause.{ProblemCause}
 use Rattle.edt_top.specs.declared.solve.problem_word.ProblemCause.TheVariants.{Form, Limit}
-use Rattle.edt_top.specs.Commands.{RunCommand, Solve, Locate}
+use Rattle.edt_top.specs.Commands.{RunCommand, Solve, Locate, Demo}
 use Rattle.run_input.specs.declared.refusals.Refusal.{Refusal}
 use Rattle.run_input.specs.declared.refusals.Refusal.TheVariants.{Absent, Read, Memory}
 use Rattle.run_input.specs.Lines.{told_line, write_line}
@@ -60,7 +60,7 @@ abbrev pub IsOfFile : List ℕ → Refusal → Type 0
 IsOfFile name refusal = (refusal ≡ Memory) ⊎ ((refusal ≡ Read name) ⊎ (refusal ≡ Absent name))
 
 -- the refusals that a command can have: those of a problem file with its own name, or those of an input, whose causes files have and whose
--- names are names
+-- names are names; and want of memory or a failed write, where no file is read
 abbrev pub CanRefuse : RunCommand → RunRefusal → Type 0
 CanRefuse (Solve name) (Problem fault) = 1 ≤ fault.word
 CanRefuse (Solve name) ProblemTooLong = ⊤
@@ -70,6 +70,10 @@ CanRefuse (Locate name) (Problem fault) = ⊥
 CanRefuse (Locate name) ProblemTooLong = ⊥
 CanRefuse (Locate name) (Input refusal) = IsTrue (is_cause refusal) × IsTrue (is_named refusal)
 CanRefuse (Locate name) Write = ⊤
+CanRefuse (Demo seed side) (Problem fault) = ⊥
+CanRefuse (Demo seed side) ProblemTooLong = ⊥
+CanRefuse (Demo seed side) (Input refusal) = refusal ≡ Memory
+CanRefuse (Demo seed side) Write = ⊤
 
 -- the file that a refusal names has a name, where it names one
 abbrev pub is_named_run : RunRefusal → Bool

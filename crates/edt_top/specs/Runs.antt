@@ -6,11 +6,14 @@ use Rattle.run_input.specs.Inputs.{InputValues, input_of}
 use Rattle.run_input.specs.Lines.{words_line}
 use Rattle.run_input.specs.Statuses.{is_one_of}
 use Rattle.run_input.specs.Told.{IsCutShort}
+use Rattle.edt_score.specs.Demo.{demo_field}
+use Rattle.octree_search.specs.Fewest.{HasShortestCover}
 use Rattle.edt_top.specs.declared.refusals.RunRefusal.{RunRefusal}
-use Rattle.edt_top.specs.Commands.{RunCommand, Solve, Locate}
+use Rattle.edt_top.specs.Commands.{RunCommand, Solve, Locate, Demo}
+use Rattle.edt_top.specs.Demo.Text.{demo_bound, demo_outcome}
 use Rattle.edt_top.specs.Locate.Covers.{AreCoversShortest}
 use Rattle.edt_top.specs.Locate.Text.{locate_parts}
-use Rattle.edt_top.specs.RunEndings.{RunEnding}
+use Rattle.edt_top.specs.RunEndings.{RunEnding, demo_ending}
 use Rattle.edt_top.specs.RunRefusals.{CanRefuse, program, run_line, run_status}
 
 -- all of some texts
@@ -44,15 +47,22 @@ pub record Answers (ending : RunEnding) (status : ℕ) (Wrote Tells : List ℕ �
 abbrev pub IsLocateText : List (List ℕ) → Type 0
 IsLocateText parts = (input : InputValues) × (parts ≡ locate_parts input) × AreCoversShortest input
 
--- the covers of an input that the files tell are the shortest, where the command locates
+-- the cover of the problem of a seed is the shortest, where it has one
+abbrev pub HasShortestDemo : ℕ → ℕ → Type 0
+HasShortestDemo seed side = HasShortestCover (demo_field seed side).roots (demo_bound seed side) 100 (demo_outcome seed side)
+
+-- the covers of an input that the files tell are the shortest, where the command locates, and that of the problem of a seed is
 abbrev pub HasShortestCovers : Files → RunCommand → Type 0
 HasShortestCovers files (Solve name) = ⊤
 HasShortestCovers files (Locate name) = IfOk (input_of files name) AreCoversShortest
+HasShortestCovers files (Demo seed side) = HasShortestDemo seed side
 
--- on every shelf: a run that locates writes the parts of such a text, and want of memory leaves nothing of a run that solves
+-- on every shelf: a run that locates writes the parts of such a text, one of a seed writes its text, and want of memory leaves nothing of a
+-- run that solves
 abbrev pub WritesParts : RunCommand → ℕ → (List ℕ → Type 0) → Type 0
 WritesParts (Solve name) status Wrote = status ≡ 6 → Wrote []
 WritesParts (Locate name) status Wrote = IsWritten IsLocateText status Wrote
+WritesParts (Demo seed side) status Wrote = IsWritten (λ (parts : List (List ℕ)). demo_ending seed side ≡ Ok parts) status Wrote
 
 -- on every shelf: the line is that of a refusal of this status which the command can have
 abbrev pub TellsRefusal : RunCommand → ℕ → (List ℕ → Type 0) → Type 0
@@ -66,7 +76,14 @@ pub record TellsLine (command : Option RunCommand) (status : ℕ) (Tells : List 
   pub refused : IsTrue (is_one_of status (3 ∷ 4 ∷ 5 ∷ 6 ∷ 7 ∷ 8 ∷ 9 ∷ []))
       → (c : RunCommand) × (command ≡ Some c) × TellsRefusal c status Tells
 
--- some header that a run wants isn't among the files; a run that solves wants none
+-- some header that a run wants isn't among the files; a run that doesn't locate wants none
 abbrev pub lacks_a_header_of : Files → RunCommand → Bool
 lacks_a_header_of files (Solve name) = false
 lacks_a_header_of files (Locate name) = lacks_a_header_under files name
+lacks_a_header_of files (Demo seed side) = false
+
+-- what the shelf has left of its open file after a run that is done: nothing, or as much as before, where the run reads no file
+abbrev pub IsReadToEnd : RunCommand → Option (List ℕ) → Option (List ℕ) → Type 0
+IsReadToEnd (Solve name) before after = after ≡ Some []
+IsReadToEnd (Locate name) before after = after ≡ Some []
+IsReadToEnd (Demo seed side) before after = after ≡ before

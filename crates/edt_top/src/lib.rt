@@ -2,6 +2,7 @@
 #![tactic(auto)]
 
 mod commands;
+mod demo;
 mod finding;
 mod locate;
 mod refusals;

@@ -5,13 +5,14 @@ ghost use Rattle.std.specs.String.{string_bytes};
 ghost use Rattle.edt_outside.specs.Counts.{RisesExactly, Rose};
 ghost use Rattle.run_input.specs.Statuses.{is_one_of};
 ghost use Rattle.run_input.specs.Told.{Told, Wrote};
-ghost use Rattle.edt_top.specs.Commands.{command_of, command_value, IsNamedCommand, is_solve};
+ghost use Rattle.edt_top.specs.Commands.{command_of, command_value, AreFewCalls, IsSoundCommand, asks_no_header};
 ghost use Rattle.edt_top.specs.RunEndings.{run_ending};
 ghost use Rattle.edt_top.specs.RunRefusals.{is_untold_run, run_status, status_after};
-ghost use Rattle.edt_top.specs.Runs.{Answers, HasShortestCovers, IsWritten, TellsLine, WritesParts, lacks_a_header_of};
+ghost use Rattle.edt_top.specs.Runs.{Answers, HasShortestCovers, IsReadToEnd, IsWritten, TellsLine, WritesParts, lacks_a_header_of};
 ghost use Rattle.edt_top.specs.Inside.Endings.{HasCause, ToldAfter};
 
 use crate::commands::{Command, command_of};
+use crate::demo::demo;
 use crate::locate::locate;
 use crate::refusals::RunRefusal;
 use crate::solve::solve;
@@ -25,7 +26,9 @@ use std::alloc::Global;
 /// The words `solve PROBLEM` read a problem file and write the first node in grid order whose score no node exceeds, or `NOFIT`
 /// where every node scores 0; the kernel is Gauss. The words `locate CONTROL` read a control file with the files that it includes, the
 /// phase file and the time grids, and write a head line and a block for each event. The block of a located event has the first such node,
-/// the nodes near it by the control file's margin, and the shortest cover of the octree that proves both. Other words have no shape.
+/// the nodes near it by the control file's margin, and the shortest cover of the octree that proves both. The words `demo SEED SIDE`, with
+/// a seed below 2^64 and a side from 1 to 64, each as its shortest decimal, make the problem of the seed in a cube with so many nodes on
+/// each axis, read no file, and write one line of what a search finds. Other words have no shape.
 ///
 /// | status | comes |
 /// |---|---|
@@ -83,15 +86,16 @@ pub fn locate_run<S: Shelf, O: Sink, E: Sink>(
     ensures calls { S.calls shelf.old ≤ S.calls shelf.new }
     ensures no_calls { result ≡ 2 → S.calls shelf.new ≡ S.calls shelf.old }
 
-    // What a run that solves never does, on every shelf.
-    ensures solve_lacks { IfSome (command_of (map string_bytes words.now)) (λ command. IsTrue (is_solve command)
+    // What a run that doesn't locate never does, on every shelf.
+    ensures asks_none { IfSome (command_of (map string_bytes words.now)) (λ command. IsTrue (asks_no_header command)
         → S.lacks shelf.new ≡ S.lacks shelf.old) }
-    ensures solve_calls { IfSome (command_of (map string_bytes words.now)) (λ command. IsTrue (is_solve command)
-        → S.calls shelf.new ≤ S.calls shelf.old + 16777219) }
+    ensures few_calls { IfSome (command_of (map string_bytes words.now)) (λ command.
+        AreFewCalls command (S.calls shelf.old) (S.calls shelf.new)) }
 
     // What stays, and what was read to its end.
     ensures same_files { S.files shelf.new ≡ S.files shelf.old }
-    ensures ended { result ≡ 0 → OnSome (S.files shelf.old) (S.left shelf.new ≡ Some []) }
+    ensures ended { result ≡ 0 → OnSome (S.files shelf.old) (IfSome (command_of (map string_bytes words.now)) (λ command.
+        IsReadToEnd command (S.left shelf.old) (S.left shelf.new))) }
 {
     let Some(command) = command_of(words) else {
         tell_words(err);
@@ -108,7 +112,7 @@ fn run<S: Shelf, O: Sink>(
     shelf: &mut S,
     out: &mut O,
 ) -> Result<(), RunRefusal>
-    requires named { IsNamedCommand (command_value command.now) }
+    requires sound { IsSoundCommand (command_value command.now) }
 
     // What it wrote, or why it is refused.
     ensures written { IfSome (S.files shelf.old) (λ files.
@@ -133,15 +137,16 @@ fn run<S: Shelf, O: Sink>(
         IsTrue (is_one_of (run_status refusal) (3 ∷ 4 ∷ [])) → S.lacks shelf.new ≡ S.lacks shelf.old) }
     ensures told_lacks { IfSome (S.files shelf.old) (λ files.
         lacks_a_header_of files (command_value command.now) ≡ false → S.lacks shelf.new ≡ S.lacks shelf.old) }
-    ensures solve_lacks { IsTrue (is_solve (command_value command.now)) → S.lacks shelf.new ≡ S.lacks shelf.old }
+    ensures asks_none { IsTrue (asks_no_header (command_value command.now)) → S.lacks shelf.new ≡ S.lacks shelf.old }
     ensures calls { S.calls shelf.old ≤ S.calls shelf.new }
-    ensures solve_calls { IsTrue (is_solve (command_value command.now))
-        → S.calls shelf.new ≤ S.calls shelf.old + 16777219 }
-    ensures ended { OnOk result (OnSome (S.files shelf.old) (S.left shelf.new ≡ Some [])) }
+    ensures few_calls { AreFewCalls (command_value command.now) (S.calls shelf.old) (S.calls shelf.new) }
+    ensures ended { OnOk result (OnSome (S.files shelf.old)
+        (IsReadToEnd (command_value command.now) (S.left shelf.old) (S.left shelf.new))) }
 {
     match command {
         Command::Solve(name) => solve(alloc, name, shelf, out),
         Command::Locate(name) => locate(alloc, name, shelf, out),
+        Command::Demo(seed, side) => demo(alloc, *seed, *side, out),
     }
 }
 

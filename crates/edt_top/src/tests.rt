@@ -1,5 +1,6 @@
 //! Whole runs over shelves and sinks in memory: texts, refusals, and calls and writes that fail.
 
+mod demo;
 mod locate_calls;
 mod locate_refusals;
 mod locate_texts;

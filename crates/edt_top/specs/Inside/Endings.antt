@@ -2,9 +2,10 @@
 use Rattle.std.specs.Prelude.{◌≡◌, ℕ, ◌≤◌, false, IsTrue, List, length, Option, Some, Result, Ok, Err, ⊤}
 use Rattle.std.specs.Global.{Vec}
 use Rattle.run_input.specs.Refusals.{is_cause}
+use Rattle.run_input.specs.declared.refusals.Refusal.TheVariants.{Memory}
 use Rattle.edt_top.specs.declared.refusals.RunRefusal.{RunRefusal}
 use Rattle.edt_top.specs.declared.refusals.RunRefusal.TheVariants.{Problem, ProblemTooLong, Input, Write}
-use Rattle.edt_top.specs.Commands.{RunCommand, Solve, Locate}
+use Rattle.edt_top.specs.Commands.{RunCommand, Solve, Locate, Demo}
 use Rattle.edt_top.specs.RunEndings.{solve_ending}
 use Rattle.edt_top.specs.RunRefusals.{IsOfFile, is_named_run, is_untold_run, run_line}
 
@@ -18,6 +19,10 @@ HasCause (Locate name) (Problem fault) = ⊥
 HasCause (Locate name) ProblemTooLong = ⊥
 HasCause (Locate name) (Input refusal) = IsTrue (is_cause refusal)
 HasCause (Locate name) Write = ⊤
+HasCause (Demo seed side) (Problem fault) = ⊥
+HasCause (Demo seed side) ProblemTooLong = ⊥
+HasCause (Demo seed side) (Input refusal) = refusal ≡ Memory
+HasCause (Demo seed side) Write = ⊤
 
 -- the bytes are those of a file within the limit of problem files, or the file ends the run so
 abbrev pub IsProblemBytes : List ℕ → Option (List ℕ) → Result (Vec ℕ) RunRefusal → Type 0

@@ -40,7 +40,34 @@ fn refuses_words_without_a_shape(rt: HostRuntime) -> Result<(), Fail> {
     expect_no_shape(&rt, alloc, &["solve", "pro blem"])?;
     expect_no_shape(&rt, alloc, &["solve", "problem", "more"])?;
     expect_no_shape(&rt, alloc, &["solved", "problem"])?;
-    expect_no_shape(&rt, alloc, &["demo", "1", "1"])
+    expect_no_shape(&rt, alloc, &["locate", "a", "b", "c"])
+}
+
+#[test]
+fn takes_seeds_and_sides_as_shortest_decimals_within_their_limits(
+    rt: HostRuntime,
+) -> Result<(), Fail> {
+    let alloc = rt.alloc();
+    for (seed, side) in [
+        ("1", "65"),
+        ("1", "0"),
+        ("01", "5"),
+        ("1", "05"),
+        ("", "5"),
+        ("1", ""),
+        ("-1", "5"),
+        ("+1", "5"),
+        ("1", "5 "),
+        ("1.0", "5"),
+        ("18446744073709551616", "5"),
+        ("1", "18446744073709551617"),
+    ] {
+        expect_no_shape(&rt, alloc, &["demo", seed, side])?;
+    }
+    expect_no_shape(&rt, alloc, &["demo"])?;
+    expect_no_shape(&rt, alloc, &["demo", "1"])?;
+    expect_no_shape(&rt, alloc, &["demo", "1", "1", "1"])?;
+    expect_no_shape(&rt, alloc, &["Demo", "1", "1"])
 }
 
 #[test]
