@@ -100,7 +100,8 @@ fn ready_answer<'a, F: Fn(u64, u64) -> u64>(
     requires problem { IsValidProblem measure.now.field.now problem.now }
     requires block { IsValidBlock (block_value block.now) }
     requires marks { marks.old ≡ node_count measure.now.field.now.grid }
-    ensures value { let scoring = field_scoring (shape_of measure.now.falloff.now) measure.now.field.now problem.now.picks.items in
+    ensures value { let shape = shape_of measure.now.falloff.now in
+        let scoring = field_scoring shape measure.now.field.now problem.now.picks.items in
         IfOk result (λ answer. answer_value answer
         ≡ ready_answer (block_value block.now) (verdict_of scoring measure.now.margin (block_value block.now))) }
     ensures truth { IfOk result (λ answer. IsTrueOfPicks (shape_of measure.now.falloff.now)

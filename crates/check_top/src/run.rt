@@ -93,7 +93,8 @@ pub fn check_run<S: Shelf, O: Sink, E: Sink>(
     ensures absences { RisesExactly (result == 9) (S.misses shelf.old) (S.misses shelf.new) }
     ensures lacks { S.lacks shelf.old ≤ S.lacks shelf.new }
     ensures no_lacks { IsTrue (is_one_of result (2 ∷ 3 ∷ 4 ∷ [])) → S.lacks shelf.new ≡ S.lacks shelf.old }
-    ensures told_lacks { IfSome (S.files shelf.old) (λ files. IfSome (command_of (map string_bytes words.now)) (λ command.
+    ensures told_lacks { IfSome (S.files shelf.old) (λ files.
+        IfSome (command_of (map string_bytes words.now)) (λ command.
         lacks_a_header_under files command.control ≡ false → S.lacks shelf.new ≡ S.lacks shelf.old)) }
     ensures calls { S.calls shelf.old ≤ S.calls shelf.new }
     ensures no_calls { result ≡ 2 → S.calls shelf.new ≡ S.calls shelf.old }
