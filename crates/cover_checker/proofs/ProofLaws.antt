@@ -2,7 +2,7 @@
 use Rattle.std.proofs.Common.{◌≡◌, inl, inr, ℕ, ◌<◌, ◌≤◌, ◌&&◌, arith, refl, ap, sym, subst, ◌∙◌, Bool, true, false, cond, List, [], ◌∷◌, get_or, filter, map, All, Contains}
 use Rattle.std.specs.Prelude.{nat_le}
 use Rattle.std.proofs.lemmas.Bool.{and_from, and_right, cases_Bool, cases_lt, leb-true}
-use Rattle.std.proofs.lemmas.List.Elements.{All-head, All-tail}
+use Rattle.std.proofs.lemmas.List.Elements.{All-filter, All-head, All-tail}
 use Rattle.std.proofs.lemmas.List.FromFn.{length-range_with_len, get_or-range_with_len}
 use Rattle.cover_certificate.specs.Blocks.{BlockValue, IsValidBlock, LocatedValue, IsLocated, FitsNowhere, HasFew, HasMany, PassesBudget, PassesNearLimit}
 use Rattle.node_boxes.specs.declared.node_box.BoxBound.{BoxBound}
@@ -52,6 +52,12 @@ filter-same p q (x ∷ xs) same =
     ap (λ b. cond b (x ∷ filter p xs) (filter p xs)) (All-head (λ y. p y ≡ q y) x xs same)
     ∙ ap (λ (ys : List _). cond (q x) (x ∷ ys) ys) (filter-same p q xs (All-tail (λ y. p y ≡ q y) x xs same))
 
+-- lists made by functions that agree
+map-same : {X Y : Type 0} (f g : X → Y) (xs : List X) → All (λ x. f x ≡ g x) xs → map f xs ≡ map g xs
+map-same f g [] same = refl
+map-same f g (x ∷ xs) same =
+    ap (λ y. y ∷ map f xs) (All-head (λ y. f y ≡ g y) x xs same) ∙ ap (λ ys. g x ∷ ys) (map-same f g xs (All-tail (λ y. f y ≡ g y) x xs same))
+
 -- what holds of each node below the number of nodes holds of all nodes
 pub all_nodes-each : (P : ℕ → Type 0) (n : ℕ) → ((node : ℕ) → node < n → P node) → All P (all_nodes n)
 all_nodes-each P n each i d within =
@@ -59,18 +65,52 @@ all_nodes-each P n each i d within =
     let is : get_or (all_nodes n) i d ≡ i = get_or-range_with_len 0 n i d long ∙ omega arith in
     subst P (sym is) (each i long)
 
-module _ (s : Scoring) (bounds : AreBounds s) (margin : ℕ) (event : LocatedValue) (scored : 1 ≤ event.score) (p : ProvesLocated s margin event) where
-  low : threshold_of margin event.score ≤ event.score
-  low = omega (arith, threshold_le margin event.score)
+-- the near nodes of the same scores
+pub near_nodes-same : (n : ℕ) (one other : ℕ → ℕ) (least : ℕ) → ((node : ℕ) → node < n → one node ≡ other node)
+    → near_nodes n one least ≡ near_nodes n other least
+unfolding near_nodes
+near_nodes-same n one other least same =
+    map-same (with_score one) (with_score other) (filter (λ node. nat_le least (one node)) (all_nodes n))
+    (All-filter (λ node. nat_le least (one node)) (λ node. with_score one node ≡ with_score other node) (all_nodes n)
+    (all_nodes-each (λ node. with_score one node ≡ with_score other node) n (λ node below. ap (λ (score : ℕ). (node, score)) (same node below))))
+    ∙ ap (map (with_score other))
+    (filter-same (λ node. nat_le least (one node)) (λ node. nat_le least (other node)) (all_nodes n)
+    (all_nodes-each (λ node. nat_le least (one node) ≡ nat_le least (other node)) n (λ node below. ap (nat_le least) (same node below))))
 
+module _ (s : Scoring) (bounds : AreBounds s) (least : ℕ) (boxes : List BoxBound) (cover : IsCover s boxes)
+    (closed : All (λ b. is_single b.area ≡ false → b.bound < least) boxes) where
   -- a node that reaches the threshold has a single box
-  alone_at : (node : ℕ) → node < node_count s.grid → threshold_of margin event.score ≤ s.score node → (box : IsBoxOf s event.boxes node) → is_single box.b.area ≡ true
+  pub alone_at : (node : ℕ) → node < node_count s.grid → least ≤ s.score node → (box : IsBoxOf s boxes node) → is_single box.b.area ≡ true
   alone_at node below near box = elim (cases_Bool (is_single box.b.area)) [
     | inl single ↦ single
     | inr several ↦
-        let shut = all-at (λ b. is_single b.area ≡ false → b.bound < threshold_of margin event.score) event.boxes box.b p.closed box.at several in
-        absurd (omega (arith, shut, near, under s event.boxes bounds node below box))
+        let shut = all-at (λ b. is_single b.area ≡ false → b.bound < least) boxes box.b closed box.at several in
+        absurd (omega (arith, shut, near, under s boxes bounds node below box))
   ]
+
+  -- which is near by the cover where its score is near
+  near_test : (node : ℕ) → node < node_count s.grid → (is_alone s.grid boxes node && nat_le least (s.score node)) ≡ nat_le least (s.score node)
+  near_test node below = elim (cases_Bool (nat_le least (s.score node))) [
+    | inl near ↦
+        let box = box_of_node s boxes cover node below in
+        let single = alone_at node below (leb-true least (s.score node) near) box in
+        let has : is_alone s.grid boxes node ≡ true =
+        any-contains (λ b. is_single b.area && holds s.grid b.area node) boxes box.b box.at (and_from (is_single box.b.area) (holds s.grid box.b.area node) single box.held) in
+        and_from (is_alone s.grid boxes node) (nat_le least (s.score node)) has near ∙ sym near
+    | inr far ↦ and_right (is_alone s.grid boxes node) (nat_le least (s.score node)) far ∙ sym far
+  ]
+
+  -- so the near nodes of the single boxes are all near nodes
+  pub near_alone : near_of s least boxes ≡ near_nodes (node_count s.grid) s.score least
+  unfolding near_of near_nodes
+  near_alone =
+      ap (map (with_score s.score))
+      (filter-same (λ node. is_alone s.grid boxes node && nat_le least (s.score node)) (λ node. nat_le least (s.score node)) (all_nodes (node_count s.grid))
+      (all_nodes-each (λ node. (is_alone s.grid boxes node && nat_le least (s.score node)) ≡ nat_le least (s.score node)) (node_count s.grid) near_test))
+
+module _ (s : Scoring) (bounds : AreBounds s) (margin : ℕ) (event : LocatedValue) (scored : 1 ≤ event.score) (p : ProvesLocated s margin event) where
+  low : threshold_of margin event.score ≤ event.score
+  low = omega (arith, threshold_le margin event.score)
 
   -- no node beats the printed score, and none before the hypocentre has it
   at_most : (node : ℕ) → node < node_count s.grid → s.score node ≤ event.score
@@ -89,7 +129,7 @@ module _ (s : Scoring) (bounds : AreBounds s) (margin : ℕ) (event : LocatedVal
   not_before node before same =
       let below : node < node_count s.grid = omega (arith, p.hyp) in
       let box = box_of_node s event.boxes p.cover node below in
-      let single = alone_at node below (omega (arith, low, same)) box in
+      let single = alone_at s bounds (threshold_of margin event.score) event.boxes p.cover p.closed node below (omega (arith, low, same)) box in
       let better = all-at (λ b. is_single b.area ≡ true → IsNoBetter s event b) event.boxes box.b p.first box.at single in
       let is = corner_only s.grid box.b node single box.held in
       let after = better.later (ap s.score (sym is) ∙ same) in
@@ -107,30 +147,11 @@ module _ (s : Scoring) (bounds : AreBounds s) (margin : ℕ) (event : LocatedVal
     ];
   }
 
-  -- the near nodes of the single boxes are all near nodes
-  near_test : (node : ℕ) → node < node_count s.grid
-      → (is_alone s.grid event.boxes node && nat_le (threshold_of margin event.score) (s.score node)) ≡ nat_le (threshold_of margin event.score) (s.score node)
-  near_test node below = elim (cases_Bool (nat_le (threshold_of margin event.score) (s.score node))) [
-    | inl near ↦
-        let box = box_of_node s event.boxes p.cover node below in
-        let single = alone_at node below (leb-true (threshold_of margin event.score) (s.score node) near) box in
-        let has : is_alone s.grid event.boxes node ≡ true =
-        any-contains (λ b. is_single b.area && holds s.grid b.area node) event.boxes box.b box.at (and_from (is_single box.b.area) (holds s.grid box.b.area node) single box.held) in
-        and_from (is_alone s.grid event.boxes node) (nat_le (threshold_of margin event.score) (s.score node)) has near ∙ sym near
-    | inr far ↦ and_right (is_alone s.grid event.boxes node) (nat_le (threshold_of margin event.score) (s.score node)) far ∙ sym far
-  ]
-
   pub near_all : event.near ≡ near_nodes (node_count s.grid) s.score (threshold_of margin (best_score (node_count s.grid) s.score))
-  unfolding near_of near_nodes
   near_all =
       let best : event.score ≡ best_score (node_count s.grid) s.score = sym p.score ∙ sym (best_score-is (node_count s.grid) s.score event.hyp first_best) in
-      p.near
-      ∙ ap (map (with_score s.score))
-      (filter-same (λ node. is_alone s.grid event.boxes node && nat_le (threshold_of margin event.score) (s.score node))
-      (λ node. nat_le (threshold_of margin event.score) (s.score node)) (all_nodes (node_count s.grid))
-      (all_nodes-each (λ node. (is_alone s.grid event.boxes node && nat_le (threshold_of margin event.score) (s.score node)) ≡ nat_le (threshold_of margin event.score) (s.score node))
-      (node_count s.grid) near_test))
-      ∙ ap (λ (best : ℕ). map (with_score s.score) (filter (λ node. nat_le (threshold_of margin best) (s.score node)) (all_nodes (node_count s.grid)))) best
+      p.near ∙ near_alone s bounds (threshold_of margin event.score) event.boxes p.cover p.closed
+      ∙ ap (λ (best : ℕ). near_nodes (node_count s.grid) s.score (threshold_of margin best)) best
 
 pub true_of : (s : Scoring) (margin : ℕ) (block : BlockValue) → AreBounds s → IsValidBlock block → Proves s margin block → IsTrueOf (node_count s.grid) s.score margin block
 true_of s margin (IsLocated event) bounds valid p = record {

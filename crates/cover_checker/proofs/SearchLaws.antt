@@ -1,16 +1,15 @@
 -- What a search finds is proved by its own cover.
-use Rattle.std.proofs.Common.{◌≡◌, inl, inr, ℕ, zero, suc, ◌<◌, ◌≤◌, ◌&&◌, ◌==◌, arith, refl, ap, sym, subst, ◌∙◌, Bool, true, false, List, [], ◌∷◌, get_or, filter, length, map, All, nat_lt, if◌then◌else◌, unwrap_or}
-use Rattle.std.specs.Prelude.{nat_le}
+use Rattle.std.proofs.Common.{◌≡◌, inl, inr, ℕ, zero, suc, ◌<◌, ◌≤◌, ◌==◌, arith, refl, ap, sym, subst, ◌∙◌, Bool, true, false, List, get_or, length, map, All, nat_lt, if◌then◌else◌, unwrap_or}
 use Rattle.std.specs.List.{AllByRecursion}
-use Rattle.std.proofs.lemmas.Bool.{and_from, and_right, cases_Bool, cases_lt, leb-true, ltb-true}
+use Rattle.std.proofs.lemmas.Bool.{cases_lt, ltb-true}
 use Rattle.std.proofs.lemmas.Bool.Decides.{nat_tests}
-use Rattle.std.proofs.lemmas.List.Elements.{All-filter, All-from_recursion, All-head, All-tail}
+use Rattle.std.proofs.lemmas.List.Elements.{All-from_recursion}
 use Rattle.kernel_table.specs.declared.kernels.Shape.{Shape}
 use Rattle.node_boxes.specs.declared.node_box.NodeBox.{NodeBox}
 use Rattle.node_boxes.specs.declared.node_box.BoxBound.{BoxBound}
-use Rattle.node_boxes.specs.Boxes.{IsIn, IsPartOf, holds, is_single}
+use Rattle.node_boxes.specs.Boxes.{IsIn, IsPartOf, is_single}
 use Rattle.node_boxes.specs.Grid.{node_count}
-use Rattle.node_boxes.specs.GridOrder.{all_nodes, place_of}
+use Rattle.node_boxes.specs.GridOrder.{place_of}
 use Rattle.node_boxes.specs.Roots.{AreRoots, holders}
 use Rattle.node_boxes.proofs.Lists.{all-flat_map, all-map, all-weaker}
 use Rattle.node_boxes.proofs.OctreeBoxes.{cover_once, in_nonempty, part_inside}
@@ -22,7 +21,7 @@ use Rattle.edt_score.specs.Field.{FieldTimes, time_at}
 use Rattle.edt_score.specs.Judging.{judged_score}
 use Rattle.edt_score.proofs.BestNodes.{best_score-is, first_best-is, IsFirstBest-exists}
 use Rattle.octree_search.specs.Cover.{cover, cover_of, stops}
-use Rattle.octree_search.specs.Near.{best_of, is_near, near_list, scored}
+use Rattle.octree_search.specs.Near.{best_of, near_list}
 use Rattle.octree_search.specs.Outcomes.{IsLocated, FitsNowhere, PassesBudget, PassesNearLimit, bounded, event_cover, event_met, event_near, event_threshold, found_of, located_value, outcome_of}
 use Rattle.octree_search.proofs.Choices.{or_cases}
 use Rattle.octree_search.proofs.Findings.{areas_bounded}
@@ -31,21 +30,13 @@ use Rattle.octree_search.proofs.OctreeCovers.{covers_stop, octree_cover}
 use Rattle.octree_search.proofs.OutcomeMeanings.{zero_bounds}
 use Rattle.cover_certificate.specs.Blocks.{LocatedValue}
 use Rattle.cover_checker.specs.Bounding.{AreBounds}
-use Rattle.cover_checker.specs.Findings.{corner, is_alone, near_of, with_score}
+use Rattle.cover_checker.specs.Findings.{corner, near_of}
+use Rattle.cover_checker.specs.Locations.{near_nodes}
 use Rattle.cover_checker.specs.Proving.{IsCover, IsNoBetter, ProvesLocated, ProvesNoFit}
 use Rattle.cover_checker.specs.Scorings.{Scoring, field_scoring}
 use Rattle.cover_checker.specs.Searching.{ProvesOutcome}
 use Rattle.cover_checker.proofs.BoundLaws.{bounds_are, corner_below, node_box_score}
-use Rattle.cover_checker.proofs.CoverLaws.{all-at}
-use Rattle.cover_checker.proofs.ProofLaws.{IsBoxOf, all_nodes-each, box_of_node, filter-same}
-use Rattle.cover_checker.proofs.Searches.{any-contains}
-
--- lists made of elements of which two functions make the same
-map-same : {X Y : Type 0} (f g : X → Y) (xs : List X) → All (λ x. f x ≡ g x) xs → map f xs ≡ map g xs
-map-same f g [] same = refl
-map-same f g (x ∷ xs) same =
-    ap (λ y. y ∷ map f xs) (All-head (λ x. f x ≡ g x) x xs same)
-    ∙ ap (λ ys. g x ∷ ys) (map-same f g xs (All-tail (λ x. f x ≡ g x) x xs same))
+use Rattle.cover_checker.proofs.ProofLaws.{near_alone, near_nodes-same}
 
 -- where a score is above 0 there is a node
 some_node : (n : ℕ) (score : ℕ → ℕ) → 1 ≤ best_score n score → 0 < n
@@ -72,12 +63,12 @@ module _ (s : Scoring) (roots : List NodeBox) (are : AreRoots s.grid roots) (t :
       (cover_parts s.bound t root (in_nonempty s.grid root inside)))
       roots are.inside
 
-  -- what holds of the boxes of the cover, with their bounds
+  -- what holds of them without their bounds holds with them
   each_box : (P : NodeBox → Type 0) (Q : BoxBound → Type 0) → ((a : NodeBox) → P a → Q (bounded s.bound a))
       → AllByRecursion P (cover_of s.bound t roots) → All Q boxes_at
   each_box P Q step all = All-from_recursion Q boxes_at (all-map P Q (bounded s.bound) step (cover_of s.bound t roots) all)
 
-  -- and are a cover
+  -- so they are a cover
   rule_cover : IsCover s boxes_at
   rule_cover = record {
     inside = each_box (IsIn s.grid) (λ b. IsIn s.grid b.area) (λ a inside. inside) areas_inside;
@@ -89,56 +80,31 @@ module _ (s : Scoring) (roots : List NodeBox) (are : AreRoots s.grid roots) (t :
     bounds = each_box (IsIn s.grid) (λ b. b.bound ≡ s.bound b.area) (λ a inside. refl) areas_inside;
   }
 
-  -- of which each box of several nodes is closed
+  -- a box of several nodes at which the search stops is closed
   closed_at : (a : NodeBox) → stops s.bound t a ≡ true → is_single a ≡ false → s.bound a < t
   closed_at a stop several = elim (or_cases (is_single a) (nat_lt (s.bound a) t) stop) [
     | inl single ↦ absurd (let bad : true ≡ false = sym single ∙ several in cc)
     | inr low ↦ ltb-true (s.bound a) t low
   ]
 
+  -- so the boxes of several nodes are
   rule_closed : All (λ b. is_single b.area ≡ false → b.bound < t) boxes_at
   rule_closed =
       each_box (λ a. stops s.bound t a ≡ true) (λ b. is_single b.area ≡ false → b.bound < t) closed_at
       (covers_stop s.bound t roots (roots_nonempty s.grid roots are))
 
-module _ (s : Scoring) (bounds : AreBounds s) (t : ℕ) (boxes : List BoxBound) (cover : IsCover s boxes)
-    (closed : All (λ b. is_single b.area ≡ false → b.bound < t) boxes) where
-  -- a node that reaches the threshold has a single box
-  alone_at : (node : ℕ) → node < node_count s.grid → t ≤ s.score node → (box : IsBoxOf s boxes node) → is_single box.b.area ≡ true
-  alone_at node below near box = elim (cases_Bool (is_single box.b.area)) [
-    | inl single ↦ single
-    | inr several ↦
-        let shut = all-at (λ b. is_single b.area ≡ false → b.bound < t) boxes box.b closed box.at several in
-        absurd (omega (arith, shut, near, box.bound, bounds.above box.b.area node box.inside below box.held))
-  ]
+-- the near list of a search is that of all near nodes
+list_nodes : (s : Scoring) (t : ℕ) → near_list s.grid s.bound t ≡ near_nodes (node_count s.grid) (judged_score s.grid s.bound) t
+unfolding near_list near_nodes
+list_nodes s t = refl
 
-  near_test : (node : ℕ) → node < node_count s.grid
-      → is_near s.grid s.bound t node ≡ (is_alone s.grid boxes node && nat_le t (s.score node))
-  near_test node below =
-      let score : is_near s.grid s.bound t node ≡ nat_le t (s.score node) = ap (nat_le t) (node_box_score s bounds node below) in
-      elim (cases_Bool (nat_le t (s.score node))) [
-        | inl near ↦
-            let box = box_of_node s boxes cover node below in
-            let single = alone_at node below (leb-true t (s.score node) near) box in
-            let has : is_alone s.grid boxes node ≡ true =
-            any-contains (λ b. is_single b.area && holds s.grid b.area node) boxes box.b box.at
-            (and_from (is_single box.b.area) (holds s.grid box.b.area node) single box.held) in
-            score ∙ near ∙ sym (and_from (is_alone s.grid boxes node) (nat_le t (s.score node)) has near)
-        | inr far ↦ score ∙ far ∙ sym (and_right (is_alone s.grid boxes node) (nat_le t (s.score node)) far)
-      ]
-
-  -- so the near list is that of the nodes of single boxes
-  near_alone : near_list s.grid s.bound t ≡ near_of s t boxes
-  unfolding near_list near_of
-  near_alone =
-      map-same (scored s.grid s.bound) (with_score s.score) (filter (is_near s.grid s.bound t) (all_nodes (node_count s.grid)))
-      (All-filter (is_near s.grid s.bound t) (λ node. scored s.grid s.bound node ≡ with_score s.score node) (all_nodes (node_count s.grid))
-      (all_nodes-each (λ node. scored s.grid s.bound node ≡ with_score s.score node) (node_count s.grid)
-      (λ node below. ap (λ (score : ℕ). (node, score)) (node_box_score s bounds node below))))
-      ∙ ap (map (with_score s.score))
-      (filter-same (is_near s.grid s.bound t) (λ node. is_alone s.grid boxes node && nat_le t (s.score node)) (all_nodes (node_count s.grid))
-      (all_nodes-each (λ node. is_near s.grid s.bound t node ≡ (is_alone s.grid boxes node && nat_le t (s.score node)))
-      (node_count s.grid) near_test))
+-- so it is that of the nodes of the single boxes
+near_told : (s : Scoring) → AreBounds s → (t : ℕ) (boxes : List BoxBound) → IsCover s boxes
+    → All (λ b. is_single b.area ≡ false → b.bound < t) boxes → near_list s.grid s.bound t ≡ near_of s t boxes
+near_told s bounds t boxes cover closed =
+    list_nodes s t
+    ∙ near_nodes-same (node_count s.grid) (judged_score s.grid s.bound) s.score t (node_box_score s bounds)
+    ∙ sym (near_alone s bounds t boxes cover closed)
 
 -- no node of a single box is better than the first best one
 not_better : (s : Scoring) → AreBounds s → (event : LocatedValue) → IsFirstBest (node_count s.grid) (judged_score s.grid s.bound) event.hyp
@@ -157,6 +123,7 @@ not_better s bounds event best score b inside =
     }
 
 module _ (s : Scoring) (roots : List NodeBox) (bounds : AreBounds s) (are : AreRoots s.grid roots) (margin : ℕ) where
+  -- the threshold of the event
   abbrev least : ℕ
   least = event_threshold s.grid s.bound margin
 
@@ -169,6 +136,7 @@ module _ (s : Scoring) (roots : List NodeBox) (bounds : AreBounds s) (are : AreR
     boxes = event_cover s.grid roots s.bound margin;
   }
 
+  -- its cover proves it
   told_proved : 1 ≤ best_of s.grid s.bound → ProvesLocated s margin told
   told_proved scores =
       let n : ℕ = node_count s.grid in
@@ -184,15 +152,17 @@ module _ (s : Scoring) (roots : List NodeBox) (bounds : AreBounds s) (are : AreR
         hyp = best.inside;
         score = score;
         first = λ k d below single. not_better s bounds told best score (get_or told.boxes k d) (cover.inside k d below);
-        near = near_alone s bounds least told.boxes cover closed;
+        near = near_told s bounds least told.boxes cover closed;
       }
 
+  -- and where no node scores the cover proves that
   no_fit_proved : best_of s.grid s.bound ≡ 0 → ProvesNoFit s (event_cover s.grid roots s.bound margin)
   no_fit_proved none = record { cover = rule_cover s roots are least; zero = zero_bounds s.grid roots s.bound margin are none }
 
-  -- what is found, by its tests
+  -- so what is found is proved, whatever the tests of the outcome say
   proved_by : (past none many : Bool) → (none ≡ true → best_of s.grid s.bound ≡ 0) → (none ≡ false → 1 ≤ best_of s.grid s.bound)
-      → ProvesOutcome s margin (if past then PassesBudget else (if none then FitsNowhere (event_cover s.grid roots s.bound margin) (event_met s.grid roots s.bound margin)
+      → ProvesOutcome s margin (if past then PassesBudget
+      else (if none then FitsNowhere (event_cover s.grid roots s.bound margin) (event_met s.grid roots s.bound margin)
       else if many then PassesNearLimit else IsLocated (located_value s.grid roots s.bound margin)))
   proved_by true none many zero_all some = tt
   proved_by false true many zero_all some = no_fit_proved (zero_all refl)
@@ -202,7 +172,8 @@ module _ (s : Scoring) (roots : List NodeBox) (bounds : AreBounds s) (are : AreR
   found_proved : (budget : ℕ) → ProvesOutcome s margin (outcome_of s.grid roots s.bound margin budget)
   unfolding outcome_of found_of
   found_proved budget =
-      proved_by (nat_lt budget (event_met s.grid roots s.bound margin)) (best_of s.grid s.bound == 0) (nat_lt 100000 (length (event_near s.grid s.bound margin)))
+      proved_by (nat_lt budget (event_met s.grid roots s.bound margin)) (best_of s.grid s.bound == 0)
+      (nat_lt 100000 (length (event_near s.grid s.bound margin)))
       (λ none. grind (arith, nat_tests)) (λ some. grind (arith, nat_tests))
 
 -- what a search finds is proved by its own cover

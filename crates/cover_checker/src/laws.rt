@@ -41,8 +41,9 @@ pub fn near_law()
         → near_nodes (node_count g) (judged_score g bound) least ≡ near_list g bound least }
 {}
 
-/// The certificate of what a search finds proves it, with any roots of the grid, margin and budget. The bounds need only be
-/// at least the scores of the nodes, and those of single boxes the scores; the bounds by a field's times are so.
+/// The certificate of what a search finds proves it, whatever the roots of the grid, the margin and the budget,
+/// where no bound is below the score of a node of its box and that of a single box is the score; so are the bounds
+/// by picks and the travel times of a field.
 pub fn search_law()
     ensures found { (s : Scoring) (roots : List NodeBox) (margin budget : ℕ) → AreBounds s → AreRoots s.grid roots
         → ProvesOutcome s margin (outcome_of s.grid roots s.bound margin budget) }
