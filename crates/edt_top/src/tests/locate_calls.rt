@@ -2,8 +2,93 @@
 
 use super::running::{Ending, expect, plain};
 use super::sample::Change::{Add, Swap};
-use super::sample::{TEXT, sample};
+use super::sample::{
+    CONTROL, FIRST_BODY, FIRST_HEADER, PHASES, SECOND_BODY, SECOND_HEADER, TEXT, sample,
+};
+use std::alloc::Global;
+use std::process::Abort;
 use std::test::Fail;
+
+// Asserts that a run on the sample ends with the name of this file where one of its calls fails.
+fn expect_read(
+    rt: &impl Abort,
+    alloc: Global,
+    piece: usize,
+    call: u64,
+    name: &str,
+) -> Result<(), Fail> {
+    let failing = [call];
+    let mut run = plain(&["locate", "e1.in"]);
+    run.piece = piece;
+    run.failing_calls = &failing;
+    let line = format!(in alloc; "edtloc: read {name}\n")?;
+    let ending = Ending {
+        status: 7,
+        out: "",
+        err: line.as_str(),
+    };
+    expect(rt, alloc, sample(rt, alloc, &[])?, &run, &ending)
+}
+
+#[test]
+fn names_the_file_of_each_call_that_fails(rt: HostRuntime) -> Result<(), Fail> {
+    let alloc = rt.alloc();
+    // The files in the order of reading, with the calls before the first read of each: a header is asked for before it is opened.
+    let files = [
+        ("e1.in", 1, CONTROL.len()),
+        ("obs.txt", 1, PHASES.len()),
+        ("time/a.P.AAA.time.hdr", 2, FIRST_HEADER.len()),
+        ("time/a.P.BBB.time.hdr", 2, SECOND_HEADER.len()),
+        ("time/a.P.AAA.time.usec", 1, FIRST_BODY.len()),
+        ("time/a.P.BBB.time.usec", 1, SECOND_BODY.len()),
+    ];
+    for piece in [1, 3, 65536] {
+        let mut call: u64 = 0;
+        for (name, opening, length) in files {
+            // The last read finds the end.
+            let calls = length
+                .div_ceil(piece.max(1))
+                .wrapping_add(opening)
+                .wrapping_add(1);
+            for _ in 0..calls {
+                call = call.wrapping_add(1);
+                expect_read(&rt, alloc, piece, call, name)?;
+            }
+        }
+        let failing = [call.wrapping_add(1)];
+        let mut run = plain(&["locate", "e1.in"]);
+        run.piece = piece;
+        run.failing_calls = &failing;
+        let ending = Ending {
+            status: 0,
+            out: TEXT,
+            err: "",
+        };
+        expect(&rt, alloc, sample(&rt, alloc, &[])?, &run, &ending)?;
+    }
+    Ok(())
+}
+
+#[test]
+fn leaves_the_bytes_before_a_write_that_fails(rt: HostRuntime) -> Result<(), Fail> {
+    let alloc = rt.alloc();
+    for taken in 0..TEXT.len() {
+        let Some(out) = TEXT.get(..taken) else {
+            return Err("a front of the text".into());
+        };
+        let failing = [(taken as u64).wrapping_add(1)];
+        let mut run = plain(&["locate", "e1.in"]);
+        run.taking = 1;
+        run.failing_writes = &failing;
+        let ending = Ending {
+            status: 8,
+            out,
+            err: "edtloc: write\n",
+        };
+        expect(&rt, alloc, sample(&rt, alloc, &[])?, &run, &ending)?;
+    }
+    Ok(())
+}
 
 #[test]
 fn names_the_file_whose_call_failed(rt: HostRuntime) -> Result<(), Fail> {

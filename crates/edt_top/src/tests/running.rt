@@ -9,11 +9,12 @@ use std::test::Fail;
 // The names of files and what they hold.
 pub type Files = Vec<(Name, Vec<u8>)>;
 
-// The words of a run, how many bytes a read gives at most, and the numbers of the calls and of the writes that fail.
+// The words of a run, how many bytes a read gives and a write takes at most, and the numbers of the calls and of the writes that fail.
 #[derive(Clone, Copy)]
 pub struct Run<'a> {
     pub words: &'a [&'a str],
     pub piece: usize,
+    pub taking: usize,
     pub failing_calls: &'a [u64],
     pub failing_writes: &'a [u64],
     pub failing_errors: &'a [u64],
@@ -24,6 +25,7 @@ pub fn plain<'a>(words: &'a [&'a str]) -> Run<'a> {
     Run {
         words,
         piece: 65536,
+        taking: 10,
         failing_calls: &[],
         failing_writes: &[],
         failing_errors: &[],
@@ -53,9 +55,9 @@ fn words_of(alloc: Global, words: &[&str]) -> Result<Vec<String>, Fail> {
     Ok(list)
 }
 
-// A sink that takes ten bytes a write.
-fn sink(alloc: Global, failing: &[u64]) -> Result<MemorySink, Fail> {
-    Ok(MemorySink::new(alloc, 20_000, 10, failing.to_vec(alloc)?)?)
+// A sink that takes so many bytes a write.
+fn sink(alloc: Global, taking: usize, failing: &[u64]) -> Result<MemorySink, Fail> {
+    Ok(MemorySink::new(alloc, 20_000, taking, failing.to_vec(alloc)?)?)
 }
 
 // A shelf in memory of these files.
@@ -91,8 +93,8 @@ pub fn expect_over<S: Shelf>(
     ending: &Ending,
 ) -> Result<(), Fail> {
     let words = words_of(alloc, run.words)?;
-    let mut output = sink(alloc, run.failing_writes)?;
-    let mut errors = sink(alloc, run.failing_errors)?;
+    let mut output = sink(alloc, run.taking, run.failing_writes)?;
+    let mut errors = sink(alloc, run.taking, run.failing_errors)?;
     assert_eq!(rt;
         locate_run(alloc, &words, shelf, &mut output, &mut errors),
         ending.status,

@@ -26,15 +26,15 @@ pub const FIRST_HEADER: &str = "4 1 1 10.0 0.0 0.0 1.0 1.0 1.0 TIME USEC32
 AAA 10.0 0.0 0.0
 ";
 
-const SECOND_HEADER: &str = "4 1 1 10.0 0.0 0.0 1.0 1.0 1.0 TIME USEC32
+pub const SECOND_HEADER: &str = "4 1 1 10.0 0.0 0.0 1.0 1.0 1.0 TIME USEC32
 BBB 13.0 0.0 0.0
 ";
 
 // 1, 2, 3 and 4 seconds.
-const FIRST_BODY: &[u8] = b"\x40\x42\x0f\x00\x80\x84\x1e\x00\xc0\xc6\x2d\x00\x00\x09\x3d\x00";
+pub const FIRST_BODY: &[u8] = b"\x40\x42\x0f\x00\x80\x84\x1e\x00\xc0\xc6\x2d\x00\x00\x09\x3d\x00";
 
 // 2 seconds at each node.
-const SECOND_BODY: &[u8] = b"\x80\x84\x1e\x00\x80\x84\x1e\x00\x80\x84\x1e\x00\x80\x84\x1e\x00";
+pub const SECOND_BODY: &[u8] = b"\x80\x84\x1e\x00\x80\x84\x1e\x00\x80\x84\x1e\x00\x80\x84\x1e\x00";
 
 // The text of the sample: its pair has the weight 327680, and its misfit is 0 at node 0 and past the kernel's end elsewhere.
 pub const TEXT: &str = "EDTLOC 1 EVENTS 1 PASSED 2 0
