@@ -1,47 +1,46 @@
 -- The cells of the vector in a cell: one by one beside the boxes.
 use Rattle.std.proofs.Common.{◌≡◌, ℕ, zero, suc, ◌<◌, arith, List, [], ◌∷◌, ◌++◌, length, get_or, slice_get, Some, subst, refl, ap}
 use Rattle.std.specs.List.{AllZip}
-use Rattle.std.specs.declared.boxed.Box.{Box}
 use Rattle.std.specs.declared.alloc.Global.{Global}
 use Rattle.std.specs.declared.vec.Vec.{Vec}
 use Rattle.std.proofs.lemmas.Option.{same_Some}
 use Rattle.node_boxes.specs.declared.node_box.NodeBox.{NodeBox}
 use Rattle.node_boxes.specs.Grid.{GridSize}
-use Rattle.minmax_pyramid.specs.declared.cell.Cell.{Cell, Row_of-Cell-Split-2-1, end_of-Cell-Split-2-1, more_of-Cell-Split-2-1}
-use Rattle.minmax_pyramid.specs.declared.cell.Cell.TheBlock.{items-the_row-Cell-Split-2-1, items_hidden-the_row-Cell-Split-2-1-0, hidden-the_row-Cell-Split-2-1-0}
+use Rattle.minmax_pyramid.specs.declared.cell.Cell.{Cell, Row_of-Cell, end_of-Cell, more_of-Cell}
+use Rattle.minmax_pyramid.specs.declared.cell.Cell.TheBlock.{items-the_row-Cell, items_hidden-the_row-Cell-0, hidden-the_row-Cell-0}
 use Rattle.minmax_pyramid.specs.Inside.Cells.{IsCell, AreCells}
 
 -- each box with its cell
-abbrev pub ZipCells : GridSize → (ℕ → ℕ) → List NodeBox → List (Box Cell Global) → Type 0
-ZipCells g time areas kids = AllZip (λ (a : NodeBox) (b : Box Cell Global). IsCell g time a b.value) areas kids
+abbrev pub ZipCells : GridSize → (ℕ → ℕ) → List NodeBox → List Cell → Type 0
+ZipCells g time areas kids = AllZip (IsCell g time) areas kids
 
-to_row : {n : _} (g : GridSize) (time : ℕ → ℕ) (areas : List NodeBox) (row : Row_of-Cell-Split-2-1 n)
-    → ZipCells g time areas (items-the_row-Cell-Split-2-1 n row) → AreCells g time areas row
-to_row g time [] end_of-Cell-Split-2-1 zip = tt
-to_row g time [] (more_of-Cell-Split-2-1 p kid rest) zip = zip
-to_row g time (a ∷ areas) end_of-Cell-Split-2-1 zip = zip
-to_row g time (a ∷ areas) (more_of-Cell-Split-2-1 p kid rest) (here, zip) =
+to_row : {n : _} (g : GridSize) (time : ℕ → ℕ) (areas : List NodeBox) (row : Row_of-Cell n)
+    → ZipCells g time areas (items-the_row-Cell n row) → AreCells g time areas row
+to_row g time [] end_of-Cell zip = tt
+to_row g time [] (more_of-Cell kid rest) zip = zip
+to_row g time (a ∷ areas) end_of-Cell zip = zip
+to_row g time (a ∷ areas) (more_of-Cell kid rest) (here, zip) =
     (here, to_row g time areas rest zip)
 
-of_row : {n : _} (g : GridSize) (time : ℕ → ℕ) (areas : List NodeBox) (row : Row_of-Cell-Split-2-1 n)
-    → AreCells g time areas row → ZipCells g time areas (items-the_row-Cell-Split-2-1 n row)
-of_row g time [] end_of-Cell-Split-2-1 cells = tt
-of_row g time [] (more_of-Cell-Split-2-1 p kid rest) cells = cells
-of_row g time (a ∷ areas) end_of-Cell-Split-2-1 cells = cells
-of_row g time (a ∷ areas) (more_of-Cell-Split-2-1 p kid rest) (here, cells) =
+of_row : {n : _} (g : GridSize) (time : ℕ → ℕ) (areas : List NodeBox) (row : Row_of-Cell n)
+    → AreCells g time areas row → ZipCells g time areas (items-the_row-Cell n row)
+of_row g time [] end_of-Cell cells = tt
+of_row g time [] (more_of-Cell kid rest) cells = cells
+of_row g time (a ∷ areas) end_of-Cell cells = cells
+of_row g time (a ∷ areas) (more_of-Cell kid rest) (here, cells) =
     (here, of_row g time areas rest cells)
 
-pub to_cells : (g : GridSize) (time : ℕ → ℕ) (areas : List NodeBox) (kids : Vec (Box Cell Global) Global)
-    → ZipCells g time areas kids.items → AreCells g time areas (hidden-the_row-Cell-Split-2-1-0 kids)
+pub to_cells : (g : GridSize) (time : ℕ → ℕ) (areas : List NodeBox) (kids : Vec Cell Global)
+    → ZipCells g time areas kids.items → AreCells g time areas (hidden-the_row-Cell-0 kids)
 to_cells g time areas kids zip =
-    to_row g time areas (hidden-the_row-Cell-Split-2-1-0 kids)
-    (rw (items_hidden-the_row-Cell-Split-2-1-0 kids) zip)
+    to_row g time areas (hidden-the_row-Cell-0 kids)
+    (rw (items_hidden-the_row-Cell-0 kids) zip)
 
-pub of_cells : (g : GridSize) (time : ℕ → ℕ) (areas : List NodeBox) (kids : Vec (Box Cell Global) Global)
-    → AreCells g time areas (hidden-the_row-Cell-Split-2-1-0 kids) → ZipCells g time areas kids.items
+pub of_cells : (g : GridSize) (time : ℕ → ℕ) (areas : List NodeBox) (kids : Vec Cell Global)
+    → AreCells g time areas (hidden-the_row-Cell-0 kids) → ZipCells g time areas kids.items
 of_cells g time areas kids cells =
-    rw (items_hidden-the_row-Cell-Split-2-1-0 kids) at
-    (of_row g time areas (hidden-the_row-Cell-Split-2-1-0 kids) cells)
+    rw (items_hidden-the_row-Cell-0 kids) at
+    (of_row g time areas (hidden-the_row-Cell-0 kids) cells)
 
 -- one more box with its cell
 pub zip_push : {A B : Type 0} (R : A → B → Type 0) (xs : List A) (ys : List B) (x : A) (y : B) → AllZip R xs ys

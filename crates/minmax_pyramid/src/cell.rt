@@ -22,7 +22,7 @@ pub enum Cell {
     Split {
         least: u32,
         greatest: u32,
-        kids: Vec<Box<Cell>>,
+        kids: Vec<Cell>,
     },
 }
 
@@ -53,7 +53,7 @@ pub(crate) fn build_cell(
         let (low, high) = own_span(&kid);
         least = least.min(low);
         greatest = greatest.max(high);
-        kids.push(Box::new(alloc, kid)?)?;
+        kids.push(kid)?;
     }
     Ok(Cell::Split {
         least,

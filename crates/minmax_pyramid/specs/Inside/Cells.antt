@@ -3,7 +3,7 @@ use Rattle.std.specs.Prelude.{◌≡◌, ℕ, Bool, true, false, List, [], ◌�
 use Rattle.node_boxes.specs.declared.node_box.NodeBox.{NodeBox}
 use Rattle.node_boxes.specs.Grid.{GridSize}
 use Rattle.node_boxes.specs.Children.{children_of}
-use Rattle.minmax_pyramid.specs.declared.cell.Cell.{Cell, One, Split', Row_of-Cell-Split-2-1, end_of-Cell-Split-2-1, more_of-Cell-Split-2-1}
+use Rattle.minmax_pyramid.specs.declared.cell.Cell.{Cell, One, Split', Row_of-Cell, end_of-Cell, more_of-Cell}
 use Rattle.minmax_pyramid.specs.Inside.Joins.{reach_of}
 
 -- a box of at most four nodes on each axis
@@ -18,11 +18,11 @@ abbrev mutual
       (is_small a ≡ false) × ((least, greatest) ≡ reach_of g time a) × AreCells g time (children_of a) kids
 
   -- one cell for each box
-  pub AreCells : {m : _} → GridSize → (ℕ → ℕ) → List NodeBox → Row_of-Cell-Split-2-1 m → Type 0
-  AreCells g time [] end_of-Cell-Split-2-1 = Unit {0}
-  AreCells g time (a ∷ areas) (more_of-Cell-Split-2-1 p kid rest) = IsCell g time a kid × AreCells g time areas rest
-  AreCells g time [] (more_of-Cell-Split-2-1 p kid rest) = ⊥
-  AreCells g time (a ∷ areas) end_of-Cell-Split-2-1 = ⊥
+  pub AreCells : {m : _} → GridSize → (ℕ → ℕ) → List NodeBox → Row_of-Cell m → Type 0
+  AreCells g time [] end_of-Cell = Unit {0}
+  AreCells g time (a ∷ areas) (more_of-Cell kid rest) = IsCell g time a kid × AreCells g time areas rest
+  AreCells g time [] (more_of-Cell kid rest) = ⊥
+  AreCells g time (a ∷ areas) end_of-Cell = ⊥
 
 -- where a way down to the box ends: at the cell of a small box above it, or at its own
 abbrev pub IsReached : GridSize → (ℕ → ℕ) → NodeBox → Cell → Type 0

@@ -2,7 +2,6 @@ use Rattle.std.proofs.Common.{◌∙◌, ap, sym, ℕ, ◌≤◌, arith, length,
 use Rattle.node_boxes.specs.declared.node_box.NodeBox.{NodeBox}
 use Rattle.node_boxes.proofs.OctreeBoxes.{in_nonempty}
 use Rattle.minmax_pyramid.specs.Spans.{time_in}
-use Rattle.minmax_pyramid.specs.Inside.Cells.{IsCell}
 use Rattle.minmax_pyramid.proofs.SmallBoxes.{child_inside, child_smaller, none_past}
 use Rattle.minmax_pyramid.proofs.CellSteps.{IsBuilding, building_more, building_end}
 use Rattle.minmax_pyramid.proofs.cell.+build_cell.Goals as goal
@@ -28,12 +27,11 @@ loop-place-preserved t c =
     let g = c.args.grid.now in
     let time = time_in c.args.times.now in
     let span = c.own_span-low.result in
-    let box = c.in_ok-new.field-0 in
+    let kid = c.in_ok-kid.kid in
     let own = c.own_span-low.ensures g time c.in-Some.child c.in_ok-kid.ensures in
-    let cell : IsCell g time c.in-Some.child box.value = rw c.in_ok-new.ensures.ok c.in_ok-kid.ensures in
     building_more g time c.children-children.result c.loop-place.place c.loop-place.least c.loop-place.greatest
-    c.loop-place.kids.items c.in-Some.child box c.min-least.result c.max-greatest.result span.0 span.1
-    c.push.new.self.items (sym c.in-Some.ensures) cell
+    c.loop-place.kids.items c.in-Some.child kid c.min-least.result c.max-greatest.result span.0 span.1
+    c.push.new.self.items (sym c.in-Some.ensures) c.in_ok-kid.ensures
     (ap (λ (s : ℕ × ℕ). s.0) own) (ap (λ (s : ℕ × ℕ). s.1) own)
     c.min-least.ensures c.max-greatest.ensures c.in_ok-push.ensures.items c.loop-place.invariant
 

@@ -10,8 +10,7 @@ pub returns-then-place-len : goal.returns-then-place-len
 returns-then-place-len c = λ g time a d some at here.
     let split = c.in-Split in
     let kid = split_kid g time a d c.args.place c.args.cell.now split.least split.greatest split.kids c.index.result.now split.is at here in
-    rw (c.deref.ensures, c.index.ensures)
-    (cell_reached g time d (get_or split.kids.items c.args.place c.index.result.now).value kid.1)
+    rw c.index.ensures (cell_reached g time d (get_or split.kids.items c.args.place c.index.result.now) kid.1)
 
 pub returns-else-place-len : goal.returns-else-place-len
 returns-else-place-len c = λ g time a d some at here.
