@@ -4,8 +4,9 @@ import struct
 import subprocess
 import sys
 import unittest
+from unittest import mock
 
-from running import TOOLS, ToolTest
+from running import TOOLS, ToolTest, load
 
 HEADER = b"2 1 2 0.0 0.0  0.0 1.0 1.0 1.0 TIME FLOAT more\r\nAAA 0.0 0.0 0.0\nTRANSFORM  NONE"
 # 1/128 s is 7812.5 microseconds
@@ -88,7 +89,8 @@ class UsecFromFloat(ToolTest):
         for seconds, fault in table:
             with self.subTest(fault):
                 line = "old/a.time.buf node 2 (1 0 0): the time %s; is the byte order right?" % fault
-                self.assert_refused([self.grid("a", seconds=[0.0, 1.0, seconds, nan])], [line])
+                for last in 0.0, nan:
+                    self.assert_refused([self.grid("a", seconds=[0.0, 1.0, seconds, last])], [line])
 
     def test_the_first_faulty_node_of_a_late_block(self):
         header = b"100 100 10 0 0 0 1 1 1 TIME FLOAT\nAAA 0 0 0\n"
@@ -131,6 +133,29 @@ class UsecFromFloat(ToolTest):
     def test_a_folder_that_can_not_be_made(self):
         self.write("new", "a file")
         self.assertEqual(self.convert(self.grid("a")), (1, "", "usec_from_float: new: File exists\n"))
+
+    def test_a_header_that_comes_meanwhile(self):
+        tool = load("usec_from_float")
+        path = self.grid("a")
+        for owner, name in (tool, "write_body"), (tool.NewFile, "publish"):
+            plain = getattr(owner, name)
+
+            def then_a_header(*words, plain=plain):
+                plain(*words)
+                self.write("new/a.time.hdr", "kept")
+
+            with self.subTest(name), mock.patch.object(owner, name, then_a_header):
+                status = self.convert(path)
+                self.assertEqual(status, (1, "", "usec_from_float: new/a.time.hdr: is there already\n"))
+                self.assertEqual(os.listdir(self.path("new")), ["a.time.hdr"])
+                self.assertEqual(self.read("new", "a.time.hdr"), b"kept")
+            os.unlink(self.path("new/a.time.hdr"))
+
+    def test_progress_on_a_terminal(self):
+        terminal = mock.Mock(isatty=lambda: True)
+        with mock.patch.object(sys, "stderr", terminal):
+            load("usec_from_float").show("half")
+        terminal.write.assert_called_once_with("\r\x1b[Khalf")
 
     def test_as_a_program(self):
         tool = os.path.join(TOOLS, "usec_from_float")
