@@ -47,10 +47,14 @@ def expected_place(part, name, place):
 
 
 class DrawReport(ToolTest):
+    """Runs of the tool over the example, and over changed copies of it."""
+
     def draw(self, *words, folder=NETWORK):
+        """Runs the tool, with pictures into the test's folder."""
         return self.run_tool("draw_report", *words, "--into", self.path("pictures"), folder=folder)
 
     def picture(self, number):
+        """The picture of an event."""
         return ElementTree.fromstring(self.read("pictures", "event_%d.svg" % number))
 
     def test_the_example(self):

@@ -47,7 +47,10 @@ END
 
 
 class ReportTable(ToolTest):
+    """Runs of the tool over the example's report, and over changed copies of it."""
+
     def table(self, *words):
+        """Runs the tool."""
         return self.run_tool("report_table", *words)
 
     def test_the_example(self):

@@ -13,6 +13,8 @@ from edt_tools.words import Refusal, as_decimal, lines_of, millionths, whole_num
 
 
 class Words(unittest.TestCase):
+    """Words and numbers."""
+
     def test_decimals(self):
         table = [
             ("0", 0), ("-0", 0), ("1", 1000000), ("+.5", 500000), ("5.", 5000000), ("1.50e+1", 15000000), ("-2E-3", -2000),
@@ -41,6 +43,8 @@ class Words(unittest.TestCase):
 
 
 class NewFiles(ToolTest):
+    """What is at a path before and after a new file."""
+
     def test_a_whole_file(self):
         write_new(self.path("a"), b"text")
         self.assertEqual((os.listdir(self.folder), self.read("a")), (["a"], b"text"))

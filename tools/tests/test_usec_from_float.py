@@ -15,12 +15,15 @@ WRITTEN = struct.pack("<4I", 0, 1000000, 7813, 2000000000)
 
 
 class UsecFromFloat(ToolTest):
+    """Runs of the tool over grids of a few nodes, and of several blocks."""
+
     def grid(self, name, header=HEADER, seconds=SECONDS, order="<", folder="old"):
         """Writes a grid of floats, and answers the path of its header."""
         self.write("%s/%s.time.buf" % (folder, name), struct.pack("%s%df" % (order, len(seconds)), *seconds))
         return self.write("%s/%s.time.hdr" % (folder, name), header)
 
     def convert(self, *words):
+        """Runs the tool, with new grids into the test's folder."""
         return self.run_tool("usec_from_float", "--into", self.path("new"), *words)
 
     def assert_refused(self, words, lines):
@@ -141,6 +144,7 @@ class UsecFromFloat(ToolTest):
             plain = getattr(owner, name)
 
             def then_a_header(*words, plain=plain):
+                """The plain function, after which somebody else writes a header."""
                 plain(*words)
                 self.write("new/a.time.hdr", "kept")
 
