@@ -57,7 +57,7 @@ fn words_of(alloc: Global, words: &[&str]) -> Result<Vec<String>, Fail> {
 
 // A sink that takes so many bytes a write.
 fn sink(alloc: Global, taking: usize, failing: &[u64]) -> Result<MemorySink, Fail> {
-    Ok(MemorySink::new(alloc, 20_000, taking, failing.to_vec(alloc)?)?)
+    Ok(MemorySink::new(alloc, 20_000, taking.max(1), failing.to_vec(alloc)?)?)
 }
 
 // A shelf in memory of these files.
