@@ -16,7 +16,7 @@ use Rattle.control_reader.specs.ControlFile.{value_or, files_in, method_in, miss
 use Rattle.control_reader.specs.Limits.{IsControl, IsShape}
 use Rattle.control_reader.specs.Inside.Said.{Said, said_of, said_in}
 use Rattle.control_reader.specs.Inside.Follows.{Follows}
-use Rattle.control_reader.specs.Inside.SaidLimits.{IsWithin, IsFiles, IsFrame, IsMethod, IsSigma, AreCells, IsMargin, IsBudget}
+use Rattle.control_reader.specs.Inside.SaidLimits.{IsWithin, IsFiles, IsFrame, IsMethod, IsSigma, AreCells, IsMargin, IsBudget, IsLanes}
 use Rattle.control_reader.specs.Inside.Completion.{missing_in, Completes}
 use Rattle.control_reader.proofs.DraftSteps.{any_with}
 use Rattle.control_reader.proofs.FaultSteps.{faultless, fault_of_end}
@@ -50,6 +50,7 @@ within_control said control within completes =
     let budget : IsBudget control.budget =
     or_default IsBudget said.budget (2 * node_count control.frame.grid) control.budget completes.budget within.budget
     (omega (arith, nodes), omega (arith, frame.0.nodes)) in
+    let lanes : IsLanes control.lanes = or_default IsLanes said.lanes 1 control.lanes completes.lanes within.lanes (omega arith, omega arith) in
     record {
       obs_file = files.0;
       time_root = files.1;
@@ -73,6 +74,8 @@ within_control said control within completes =
       some_budget = budget.0;
       budget = budget.1;
       shape = or_default IsShape said.shape Gauss control.shape completes.shape within.shape tt;
+      some_lane = lanes.0;
+      lanes = lanes.1;
     }
 
 -- a default is the same for what was said and for its statement
@@ -97,6 +100,7 @@ says_lines lines control completes = record {
   margin = completes.margin ∙ same_default 0 count_of (statement_with (codes "EDTNEAR") lines);
   budget = completes.budget ∙ same_default (2 * node_count control.frame.grid) count_of (statement_with (codes "EDTBUDGET") lines);
   shape = completes.shape ∙ same_default Gauss shape_of (statement_with (codes "EDTKERNEL") lines);
+  lanes = completes.lanes ∙ same_default 1 count_of (statement_with (codes "EDTLANES") lines);
   passed = completes.passed;
 }
 

@@ -88,6 +88,7 @@ said_with kind words lines = record {
   margin = option_map count_of (first_with Edtnear kind words lines);
   budget = option_map count_of (first_with Edtbudget kind words lines);
   shape = option_map shape_of (first_with Edtkernel kind words lines);
+  lanes = option_map count_of (first_with Edtlanes kind words lines);
   phase_ids = flat_map phase_ids_of (list_with Locphaseid kind words lines);
   excludes = map exclude_of (list_with Locexclude kind words lines);
   delays = map delay_of (list_with Locdelay kind words lines);
@@ -108,6 +109,7 @@ said_more lines line = λ i. record {
   margin = ap (option_map count_of) (first_step Edtnear lines line) i;
   budget = ap (option_map count_of) (first_step Edtbudget lines line) i;
   shape = ap (option_map shape_of) (first_step Edtkernel lines line) i;
+  lanes = ap (option_map count_of) (first_step Edtlanes lines line) i;
   phase_ids = ap (flat_map phase_ids_of) (list_step Locphaseid lines line) i;
   excludes = ap (map exclude_of) (list_step Locexclude lines line) i;
   delays = ap (map delay_of) (list_step Locdelay lines line) i;
@@ -142,7 +144,7 @@ said_statement Include words lines new = refl
 said_statement Edtnear words lines new = let none = none_said count_of (statement_with (keyword_of Edtnear) lines) new in rw none refl
 said_statement Edtbudget words lines new = let none = none_said count_of (statement_with (keyword_of Edtbudget) lines) new in rw none refl
 said_statement Edtkernel words lines new = let none = none_said shape_of (statement_with (keyword_of Edtkernel) lines) new in rw none refl
-said_statement Edtlanes words lines new = refl
+said_statement Edtlanes words lines new = let none = none_said count_of (statement_with (keyword_of Edtlanes) lines) new in rw none refl
 said_statement Locgau2 words lines new = refl
 
 -- no statement of this kind is a second one
@@ -221,7 +223,7 @@ said_before Include lines known = refl
 said_before Edtnear lines known = any_with count_of (keyword_of Edtnear) lines
 said_before Edtbudget lines known = any_with count_of (keyword_of Edtbudget) lines
 said_before Edtkernel lines known = any_with shape_of (keyword_of Edtkernel) lines
-said_before Edtlanes lines known = absurd cc
+said_before Edtlanes lines known = any_with count_of (keyword_of Edtlanes) lines
 said_before Locgau2 lines known = absurd cc
 
 -- whether a statement that isn't read yet is repeated doesn't matter

@@ -49,5 +49,6 @@ says_values lines control says =
       margin = says.margin i;
       budget = budget i;
       shape = says.shape i;
+      lanes = says.lanes i;
       passed = says.passed i;
     }

@@ -131,6 +131,7 @@ pub record IsControlOf (lines : List ControlLine) (control : Control) : Type 0 w
   pub margin : control.margin ≡ value_or 0 count_of (statement_with (codes "EDTNEAR") lines)
   pub budget : control.budget ≡ value_or (2 * node_count control.frame.grid) count_of (statement_with (codes "EDTBUDGET") lines)
   pub shape : control.shape ≡ value_or Gauss shape_of (statement_with (codes "EDTKERNEL") lines)
+  pub lanes : control.lanes ≡ value_or 1 count_of (statement_with (codes "EDTLANES") lines)
   pub passed : control.passed ≡ count_by is_passed lines
 
 -- no line is faulty, no needed statement is missing, and this is what the lines say

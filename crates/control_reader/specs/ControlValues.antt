@@ -31,6 +31,7 @@ pub record ControlValues : Type 0 where
   pub margin : ℕ
   pub budget : ℕ
   pub shape : Shape
+  pub lanes : ℕ
   pub passed : ℕ
 
 -- those of a control file that was read
@@ -57,5 +58,6 @@ values_of control = record {
   margin = control.margin;
   budget = control.budget;
   shape = control.shape;
+  lanes = control.lanes;
   passed = control.passed;
 }

@@ -103,5 +103,5 @@ is_not_yet Include = false
 is_not_yet Edtnear = false
 is_not_yet Edtbudget = false
 is_not_yet Edtkernel = false
-is_not_yet Edtlanes = true
+is_not_yet Edtlanes = false
 is_not_yet Locgau2 = true

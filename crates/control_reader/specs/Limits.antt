@@ -66,3 +66,5 @@ pub record IsControl (control : Control) : Type 0 where
   pub some_budget : 1 ≤ control.budget
   pub budget : control.budget ≤ 4000000
   pub shape : IsShape control.shape
+  pub some_lane : 1 ≤ control.lanes
+  pub lanes : control.lanes ≤ 64

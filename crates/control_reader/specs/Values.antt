@@ -95,7 +95,7 @@ seed_of words = whole_at 1 words
 unfoldable pub include_of : List (List ℕ) → List ℕ
 include_of words = word_at 0 words
 
--- EDTNEAR: the margin; EDTBUDGET: the budget
+-- EDTNEAR: the margin; EDTBUDGET: the budget; EDTLANES: the number of lanes
 unfoldable pub count_of : List (List ℕ) → ℕ
 count_of words = count_at 0 words
 

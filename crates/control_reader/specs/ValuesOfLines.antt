@@ -42,5 +42,6 @@ values_in lines =
       margin = value_or 0 count_of (statement_with (codes "EDTNEAR") lines);
       budget = value_or (2 * node_count frame.grid) count_of (statement_with (codes "EDTBUDGET") lines);
       shape = value_or Gauss shape_of (statement_with (codes "EDTKERNEL") lines);
+      lanes = value_or 1 count_of (statement_with (codes "EDTLANES") lines);
       passed = count_by is_passed lines;
     }

@@ -187,6 +187,10 @@ margin_fault words = whole_fault (from_to (pos 0) (pos 999)) (word_at 0 words)
 unfoldable pub budget_fault : List (List ℕ) → Option ControlCause
 budget_fault words = whole_fault (from_to (pos 1) (pos 4000000)) (word_at 0 words)
 
+-- EDTLANES: 1 to 64 lanes
+unfoldable pub lanes_fault : List (List ℕ) → Option ControlCause
+lanes_fault words = whole_fault (from_to (pos 1) (pos 64)) (word_at 0 words)
+
 -- EDTKERNEL: behind COUNT a decimal of 0 to 1000 seconds
 abbrev pub limit_fault : List (List ℕ) → Option ControlCause
 limit_fault words =
@@ -217,7 +221,7 @@ fault_in_words Include words = include_fault words
 fault_in_words Edtnear words = margin_fault words
 fault_in_words Edtbudget words = budget_fault words
 fault_in_words Edtkernel words = shape_fault words
-fault_in_words Edtlanes words = None
+fault_in_words Edtlanes words = lanes_fault words
 fault_in_words Locgau2 words = None
 
 -- the first fault in the words of a statement: too few, and then the words from left to right

@@ -82,7 +82,7 @@ pub struct Control {
     pub delays: Vec<Delay>,
     /// The other names of stations.
     pub aliases: Vec<Alias>,
-    /// The seed of random numbers; 0 where none is given.
+    /// The seed of random numbers, of which the lanes' schedule is made; 0 where none is given.
     pub seed: i64,
     /// The margin of the list of near-optimal nodes, in thousandths of the best score, 0 to 999.
     pub margin: u32,
@@ -90,6 +90,8 @@ pub struct Control {
     pub budget: u32,
     /// The kernel, by default `Gauss`. The limit of `Count` is at most 10^9 microseconds.
     pub shape: Shape,
+    /// How many lanes search an event at once, 1 to 64; 1 where none is given.
+    pub lanes: u32,
     /// How many lines have a keyword that isn't read.
     pub passed: u32,
 }

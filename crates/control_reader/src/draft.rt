@@ -28,6 +28,7 @@ pub(crate) struct Draft {
     pub(crate) margin: Option<u32>,
     pub(crate) budget: Option<u32>,
     pub(crate) shape: Option<Shape>,
+    pub(crate) lanes: Option<u32>,
     pub(crate) phase_ids: Vec<PhaseId>,
     pub(crate) excludes: Vec<Exclude>,
     pub(crate) delays: Vec<Delay>,
@@ -53,6 +54,7 @@ impl Draft {
             margin: None,
             budget: None,
             shape: None,
+            lanes: None,
             phase_ids: Vec::new(alloc),
             excludes: Vec::new(alloc),
             delays: Vec::new(alloc),
@@ -146,6 +148,7 @@ impl Draft {
             margin: self.margin.unwrap_or(0),
             budget: self.budget.unwrap_or(2 * frame.grid.nodes()),
             shape: self.shape.unwrap_or(Shape::Gauss),
+            lanes: self.lanes.unwrap_or(1),
             passed: self.passed,
         })
     }

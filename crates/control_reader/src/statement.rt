@@ -108,7 +108,7 @@ impl Statement {
     pub(crate) fn is_not_yet(self) -> bool
         ensures { result ≡ keywords.is_not_yet self }
     {
-        matches!(self, Statement::Edtlanes | Statement::Locgau2)
+        matches!(self, Statement::Locgau2)
     }
 
     /// How many words it needs behind its keyword.

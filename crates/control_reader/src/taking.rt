@@ -15,7 +15,8 @@ use crate::fault::ControlCause;
 use crate::statement::{LineKind, Statement, split_line};
 use crate::words::{
     read_alias, read_budget, read_cells, read_delay, read_exclude, read_files, read_frame,
-    read_include, read_margin, read_method, read_phase_ids, read_seed, read_shape, read_sigma,
+    read_include, read_lanes, read_margin, read_method, read_phase_ids, read_seed, read_shape,
+    read_sigma,
 };
 use std::alloc::Global;
 
@@ -104,6 +105,7 @@ impl Draft {
             Statement::Edtnear => self.margin.is_some(),
             Statement::Edtbudget => self.budget.is_some(),
             Statement::Edtkernel => self.shape.is_some(),
+            Statement::Edtlanes => self.lanes.is_some(),
             _ => false,
         }
     }
@@ -141,7 +143,7 @@ impl Draft {
             Statement::Edtnear => put(&mut self.margin, read_margin(arguments)),
             Statement::Edtbudget => put(&mut self.budget, read_budget(arguments)),
             Statement::Edtkernel => put(&mut self.shape, read_shape(arguments)),
-            Statement::Edtlanes => Ok(()),
+            Statement::Edtlanes => put(&mut self.lanes, read_lanes(arguments)),
             Statement::Locgau2 => Ok(()),
         }
     }

@@ -120,7 +120,7 @@ fn the_sample_is_read(rt: HostRuntime) -> Result<(), Fail> {
             assert_eq!(rt; control.sigma, 100_000);
             assert!(rt; control.cells == (1, 1, 1));
             assert_eq!(rt; control.seed, 54321);
-            assert!(rt; (control.margin, control.budget) == (0, 8));
+            assert!(rt; (control.margin, control.budget, control.lanes) == (0, 8, 1));
             assert!(rt; control.shape == Shape::Gauss);
             assert!(rt; control.phase_ids.is_empty() && control.excludes.is_empty());
             assert!(rt; control.delays.is_empty() && control.aliases.is_empty());
@@ -135,7 +135,8 @@ fn optional_words_and_statements_are_read(rt: HostRuntime) -> Result<(), Fail> {
     let alloc = rt.alloc();
     let text = "LOCFILES o NLLOC_OBS t x 1 more\nLOCGRID 2 3 4 -1.5 2.5 -0.000001 1 2 3\n\
         LOCMETH EDT -1 -2 3 4 1.73 ? 0.5 0 more\nLOCGAU 1\nLOCSEARCH OCT 0 5000 7 more\n\
-        EDTNEAR 999\nEDTBUDGET 17\nEDTKERNEL COUNT 3.0 7\nedtnear\nGTMODE GRID3D\n";
+        EDTNEAR 999\nEDTBUDGET 17\nEDTKERNEL COUNT 3.0 7\nEDTLANES 64 x\nedtnear\n\
+        GTMODE GRID3D\n";
     match read(alloc, text, &[]) {
         Ok(control) => {
             assert!(rt; control.swap);
@@ -148,6 +149,7 @@ fn optional_words_and_statements_are_read(rt: HostRuntime) -> Result<(), Fail> {
             assert!(rt; !control.reject_duplicates);
             assert!(rt; control.cells == (1, 4096, 7));
             assert!(rt; (control.margin, control.budget, control.seed) == (999, 17, 0));
+            assert_eq!(rt; control.lanes, 64);
             assert!(rt; control.shape == Shape::Count(3_000_000));
             assert_eq!(rt; control.passed, 2);
         }
@@ -317,7 +319,14 @@ const ADDED: &str = "\
     Number EDTKERNEL COUNT x\n\
     Limit EDTKERNEL COUNT 1000.000001\n\
     Limit EDTKERNEL COUNT -0.000001\n\
-    NotYet EDTLANES 2\n\
+    Fields EDTLANES\n\
+    Limit EDTLANES 0\n\
+    good EDTLANES 1\n\
+    good EDTLANES 64 65 x\n\
+    Limit EDTLANES 65\n\
+    Limit EDTLANES -1\n\
+    Number EDTLANES 2.5\n\
+    Number EDTLANES x\n\
     NotYet LOCGAU2 x\n\
     good LOCGAU3 x\n\
 ";
@@ -383,7 +392,7 @@ fn names_and_lines_have_lengths(rt: HostRuntime) -> Result<(), Fail> {
             Some(ControlCause::LongLine),
         ),
         (
-            format!(in alloc; "EDTLANES {long}\n")?,
+            format!(in alloc; "LOCGAU2 {long}\n")?,
             Some(ControlCause::LongLine),
         ),
     ] {
@@ -414,7 +423,7 @@ fn needed_statements_may_stand_once(rt: HostRuntime) -> Result<(), Fail> {
         let again = Some((0, number as u32 + 1, ControlCause::Repeated));
         assert!(rt; fault_of(alloc, text.as_str(), &[]) == again, "at {line}");
     }
-    for line in ["EDTNEAR 1", "EDTBUDGET 1", "EDTKERNEL GAUSS"] {
+    for line in ["EDTNEAR 1", "EDTBUDGET 1", "EDTKERNEL GAUSS", "EDTLANES 3"] {
         let twice = format!(in alloc; "{line}\n{line} x\n")?;
         let text = sample_with(alloc, 10, twice.as_str())?;
         let again = Some((0, 11, ControlCause::Repeated));

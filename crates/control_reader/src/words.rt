@@ -15,4 +15,4 @@ pub(crate) use frame::read_frame;
 pub(crate) use kernel::read_shape;
 pub(crate) use method::read_method;
 pub(crate) use phases::{read_alias, read_delay, read_exclude, read_phase_ids};
-pub(crate) use search::{read_budget, read_cells, read_margin, read_seed, read_sigma};
+pub(crate) use search::{read_budget, read_cells, read_lanes, read_margin, read_seed, read_sigma};

@@ -40,4 +40,5 @@ pub record Completes (said : Said) (control : Control) : Type 0 where
   pub margin : control.margin ≡ unwrap_or said.margin 0
   pub budget : control.budget ≡ unwrap_or said.budget (2 * node_count control.frame.grid)
   pub shape : control.shape ≡ unwrap_or said.shape Gauss
+  pub lanes : control.lanes ≡ unwrap_or said.lanes 1
   pub passed : control.passed ≡ said.passed

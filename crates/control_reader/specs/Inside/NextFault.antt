@@ -28,7 +28,7 @@ was_said Include said = false
 was_said Edtnear said = is_some said.margin
 was_said Edtbudget said = is_some said.budget
 was_said Edtkernel said = is_some said.shape
-was_said Edtlanes said = false
+was_said Edtlanes said = is_some said.lanes
 was_said Locgau2 said = false
 
 -- the statement includes a file

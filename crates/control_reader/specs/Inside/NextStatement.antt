@@ -24,7 +24,7 @@ with_statement Include words said = record said { includes = said.includes + 1 }
 with_statement Edtnear words said = record said { margin = Some (count_of words) }
 with_statement Edtbudget words said = record said { budget = Some (count_of words) }
 with_statement Edtkernel words said = record said { shape = Some (shape_of words) }
-with_statement Edtlanes words said = said
+with_statement Edtlanes words said = record said { lanes = Some (count_of words) }
 with_statement Locgau2 words said = said
 
 -- what is said with one more line of a kind

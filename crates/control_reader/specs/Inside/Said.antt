@@ -27,6 +27,7 @@ pub record Said : Type 0 where
   pub margin : Option ℕ
   pub budget : Option ℕ
   pub shape : Option Shape
+  pub lanes : Option ℕ
   pub phase_ids : List PhaseId
   pub excludes : List Exclude
   pub delays : List Delay
@@ -46,6 +47,7 @@ said_of draft = record {
   margin = draft.margin;
   budget = draft.budget;
   shape = draft.shape;
+  lanes = draft.lanes;
   phase_ids = draft.phase_ids.items;
   excludes = draft.excludes.items;
   delays = draft.delays.items;
@@ -66,6 +68,7 @@ said_in lines = record {
   margin = option_map count_of (statement_with (codes "EDTNEAR") lines);
   budget = option_map count_of (statement_with (codes "EDTBUDGET") lines);
   shape = option_map shape_of (statement_with (codes "EDTKERNEL") lines);
+  lanes = option_map count_of (statement_with (codes "EDTLANES") lines);
   phase_ids = flat_map phase_ids_of (statements_with (codes "LOCPHASEID") lines);
   excludes = map exclude_of (statements_with (codes "LOCEXCLUDE") lines);
   delays = map delay_of (statements_with (codes "LOCDELAY") lines);

@@ -42,6 +42,10 @@ IsMargin margin = margin ≤ 999
 abbrev pub IsBudget : ℕ → Type 0
 IsBudget budget = (1 ≤ budget) × (budget ≤ 4000000)
 
+-- what EDTLANES says
+abbrev pub IsLanes : ℕ → Type 0
+IsLanes lanes = (1 ≤ lanes) × (lanes ≤ 64)
+
 -- all that is said is within its limits
 pub record IsWithin (said : Said) : Type 0 where
   pub files : IfSome said.files IsFiles
@@ -52,6 +56,7 @@ pub record IsWithin (said : Said) : Type 0 where
   pub margin : IfSome said.margin IsMargin
   pub budget : IfSome said.budget IsBudget
   pub shape : IfSome said.shape IsShape
+  pub lanes : IfSome said.lanes IsLanes
   pub phase_ids : All IsPhaseId said.phase_ids
   pub excludes : All IsExclude said.excludes
   pub delays : All IsDelay said.delays

@@ -1,15 +1,16 @@
-//! What the words of the statements that guide the search say: `LOCGAU`, `LOCSEARCH`, `CONTROL`, `EDTNEAR` and `EDTBUDGET`.
+//! What the words of the statements that guide the search say: `LOCGAU`, `LOCSEARCH`, `CONTROL`, `EDTNEAR`, `EDTBUDGET` and
+//! `EDTLANES`.
 ghost use Rattle.std.specs.Prelude.{◌≡◌, ◌≤◌, ◌^◌, length, IfOk, IfErr, OnOk, None, Some};
 ghost use Rattle.control_reader.specs.Inside.Arguments.{argument_words};
 ghost use Rattle.control_reader.specs.Limits.{IsCellCount};
 ghost use Rattle.control_reader.specs.Words.{whole_at};
 ghost use Rattle.control_reader.specs.Values.{cells_of_number, sigma_of, cells_of, seed_of, count_of};
-ghost use Rattle.control_reader.specs.WordFaults.{octree_fault, sigma_fault, cells_fault, seed_fault, margin_fault, budget_fault};
+ghost use Rattle.control_reader.specs.WordFaults.{octree_fault, sigma_fault, cells_fault, seed_fault, margin_fault, budget_fault, lanes_fault};
 
 use crate::arguments::Arguments;
 use crate::fault::ControlCause;
 
-// Limits of this project: microseconds of the error of the travel times, cells along an axis, thousandths of the margin, and boxes.
+// Limits of this project: microseconds of the error of the travel times, cells along an axis, thousandths of the margin, boxes, and lanes.
 const GREATEST_SIGMA: i64 = 100_000_000;
 
 const MOST_CELLS: i64 = 4096;
@@ -17,6 +18,8 @@ const MOST_CELLS: i64 = 4096;
 const GREATEST_MARGIN: i64 = 999;
 
 const GREATEST_BUDGET: i64 = 4_000_000;
+
+const MOST_LANES: i64 = 64;
 
 /// What `LOCGAU` says: the error of the travel times in microseconds.
 #[tactic(auto, unfolding(crate::specs::WordFaults::sigma_fault, crate::specs::Values::sigma_of))]
@@ -109,4 +112,17 @@ pub(crate) fn read_budget(arguments: &Arguments) -> Result<u32, ControlCause>
 {
     let budget = arguments.whole_from_to(0, 1, GREATEST_BUDGET)?;
     Ok(budget as u32)
+}
+
+/// What `EDTLANES` says: the number of lanes.
+#[tactic(auto, unfolding(crate::specs::WordFaults::lanes_fault, crate::specs::Values::count_of))]
+pub(crate) fn read_lanes(arguments: &Arguments) -> Result<u32, ControlCause>
+    requires { 1 ≤ length (argument_words arguments.now) }
+    ensures value { IfOk result (λ value. value ≡ count_of (argument_words arguments.now)) }
+    ensures good { OnOk result (lanes_fault (argument_words arguments.now) ≡ None) }
+    ensures limits { IfOk result (λ lanes. (1 ≤ lanes) × (lanes ≤ 64)) }
+    ensures fault { IfErr result (λ cause. lanes_fault (argument_words arguments.now) ≡ Some cause) }
+{
+    let lanes = arguments.whole_from_to(0, 1, MOST_LANES)?;
+    Ok(lanes as u32)
 }
