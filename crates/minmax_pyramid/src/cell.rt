@@ -1,3 +1,4 @@
+//! The octree of least and greatest times of one row below a box.
 ghost use Rattle.std.specs.Prelude.{◌≡◌, ℕ, ◌-◌, ◌<◌, ◌≤◌, length, nat_le, slice_get, Some, IfOk};
 ghost use Rattle.node_boxes.specs.declared.node_box.NodeBox.{NodeBox};
 ghost use Rattle.node_boxes.specs.Grid.{GridSize, node_count};
@@ -206,7 +207,7 @@ fn run_span(run: &[u32]) -> (u32, u32)
 }
 
 /// Whether a box has at most four nodes on each axis.
-fn is_small(area: &NodeBox) -> bool
+pub(crate) fn is_small(area: &NodeBox) -> bool
     ensures { result ≡ is_small area.now }
 {
     is_short(area.x0, area.x1) && is_short(area.y0, area.y1) && is_short(area.z0, area.z1)

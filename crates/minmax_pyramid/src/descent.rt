@@ -1,3 +1,4 @@
+//! The way down from a cell to the span of a box.
 ghost use Rattle.std.specs.Prelude.{◌≡◌, ◌↔◌, ◌<◌, length, slice_get, MatchOption, IsSome, IsTrue, IfSome, Some};
 ghost use Rattle.node_boxes.specs.Grid.{node_count};
 ghost use Rattle.node_boxes.specs.Boxes.{IsIn, IsSplittable};

@@ -1,3 +1,4 @@
+//! A box with its children and the way to it, found once for all rows.
 ghost use Rattle.std.specs.Prelude.{◌≡◌, ◌<◌, ◌≤◌, length, take, slice_get, Some, IfSome};
 ghost use Rattle.std.specs.List.{AllByRecursion};
 ghost use Rattle.node_boxes.specs.declared.node_box.NodeBox.{NodeBox};

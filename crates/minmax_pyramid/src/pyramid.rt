@@ -1,3 +1,4 @@
+//! The pyramid of one row alone.
 ghost use Rattle.std.specs.Prelude.{◌≡◌, ◌<◌, ◌↔◌, length, IfOk, IfSome, IsSome};
 ghost use Rattle.node_boxes.specs.Grid.{node_count};
 ghost use Rattle.node_boxes.specs.Roots.{AreRoots};

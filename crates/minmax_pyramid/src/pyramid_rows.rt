@@ -1,4 +1,5 @@
-ghost use Rattle.std.specs.Prelude.{◌≡◌, ℕ, [], ◌∷◌, ◌++◌, ◌<◌, ◌≤◌, ◌↔◌, length, IfOk, IfSome, IsSome, OnErr, OnOk, slice_get};
+//! Rows of travel times, each with the octree of its least and greatest times.
+ghost use Rattle.std.specs.Prelude.{◌≡◌, ℕ, [], ◌∷◌, ◌++◌, ◌<◌, ◌≤◌, ◌↔◌, length, IfOk, IfSome, IsSome, IsTrue, OnErr, OnOk, slice_get};
 ghost use Rattle.std.specs.List.{AllZip};
 ghost use Rattle.node_boxes.specs.declared.node_box.NodeBox.{NodeBox};
 ghost use Rattle.node_boxes.specs.Grid.{GridSize, node_count};
@@ -11,7 +12,7 @@ ghost use Rattle.minmax_pyramid.specs.Families.{AreSpans, FamilyWay, IsFamilyOf,
 ghost use Rattle.minmax_pyramid.specs.Rows.{RowTimes, row_times};
 ghost use Rattle.minmax_pyramid.specs.Inside.Cells.{IsCell, IsReached};
 
-use crate::cell::{Cell, build_cell, child_span, kid_of, span_by_nodes};
+use crate::cell::{Cell, build_cell, child_span, is_small, kid_of, span_by_nodes};
 use crate::descent::{root_with, span_below};
 use crate::family::{Family, find_family};
 use crate::root_counts::RootCounts;
@@ -124,16 +125,32 @@ impl PyramidRows {
         )
     }
 
-    /// The least and the greatest time of a row at the nodes of a box of any grid with as many nodes, from
-    /// the times of all of them. Takes no memory.
+    /// The least and the greatest time of a row at the nodes of a box of any grid with as many nodes: of a
+    /// large octree box of this grid from its octree, else from the times of all nodes of the box. Takes no
+    /// memory.
     pub fn span_in(&self, row: usize, grid: &Grid, area: &NodeBox) -> (u32, u32)
         requires row { row < length self.now.rows }
         requires nodes { node_count grid.now ≡ node_count self.now.grid }
         requires inside { IsIn grid.now area.now }
         ensures { result ≡ span_of grid.now (row_times self.now row) area.now }
     {
+        if let Some(span) = self.span_of_large(row, grid, area) {
+            return span;
+        }
         let row = &self.rows[row];
         span_by_nodes(grid, &row.times, area)
+    }
+
+    /// The least and the greatest time of a row at the nodes of a box that has more than four nodes on an
+    /// axis and is an octree box of this grid.
+    fn span_of_large(&self, row: usize, grid: &Grid, area: &NodeBox) -> Option<(u32, u32)>
+        requires { row < length self.now.rows }
+        ensures { IfSome result (λ span. span ≡ span_of grid.now (row_times self.now row) area.now) }
+    {
+        if is_small(area) || !is_same_grid(grid, &self.grid) {
+            return None;
+        }
+        self.span(row, area)
     }
 
     /// The family that a box belongs to, with the way down to it. `None` only where it isn't found, as
@@ -163,6 +180,13 @@ impl PyramidRows {
             spans,
         );
     }
+}
+
+/// Whether two grids have the same nodes.
+fn is_same_grid(a: &Grid, b: &Grid) -> bool
+    ensures { IsTrue result → a.now ≡ b.now }
+{
+    a.x() == b.x() && a.y() == b.y() && a.z() == b.z()
 }
 
 /// The cells of the roots.

@@ -1,3 +1,4 @@
+//! How many roots stand along each axis, to find the root of a box without a search.
 use node_boxes::{Grid, NodeBox};
 
 /// How many roots stand along each axis, as far as their order shows it.

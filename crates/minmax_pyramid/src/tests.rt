@@ -1,3 +1,4 @@
+//! Spans of roots, of families and of boxes off the octree.
 use super::*;
 use node_boxes::{Grid, NodeBox, roots};
 use std::alloc::{AllocError, Global};
