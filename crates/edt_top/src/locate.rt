@@ -12,6 +12,7 @@ ghost use Rattle.edt_top.specs.RunRefusals.{is_untold_run, run_status, status_af
 ghost use Rattle.edt_top.specs.Runs.{HasShortestCovers, IsLocateText, IsWritten};
 ghost use Rattle.edt_top.specs.Inside.Endings.{HasCause};
 
+mod lanes;
 mod text;
 
 use crate::refusals::RunRefusal;

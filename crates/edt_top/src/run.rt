@@ -23,12 +23,14 @@ use std::alloc::Global;
 /// All that `edtloc` does with its words: it reads through the shelf, writes to `out`, tells of a refusal on `err`, and answers the
 /// status to end with.
 ///
-/// The words `solve PROBLEM` read a problem file and write the first node in grid order whose score no node exceeds, or `NOFIT`
-/// where every node scores 0; the kernel is Gauss. The words `locate CONTROL` read a control file with the files that it includes, the
-/// phase file and the time grids, and write a head line and a block for each event. The block of a located event has the first such node,
-/// the nodes near it by the control file's margin, and the shortest cover of the octree that proves both. The words `demo SEED SIDE`, with
-/// a seed below 2^64 and a side from 1 to 64, each as its shortest decimal, make the problem of the seed in a cube with so many nodes on
-/// each axis, read no file, and write one line of what a search finds. Other words have no shape.
+/// The words `solve PROBLEM` read a problem file and write the first node in grid order whose score no node exceeds, or `NOFIT` where
+/// every node scores 0; the kernel is Gauss. The words `locate CONTROL` read a control file with the files that it includes, the phase
+/// file and the time grids, and write a head line and a block for each event. The block of a located event has the first such node, the
+/// nodes near it by the control file's margin, and the shortest cover of the octree that proves both. Where the control file gives
+/// several lanes, they divide each search among them by the schedule of its seed, and the block of an event that was searched for has one
+/// line more, `LANES`, with the number of lanes, of the events of the schedule, and of the lanes that were lost. The words `demo SEED
+/// SIDE`, with a seed below 2^64 and a side from 1 to 64, each as its shortest decimal, make the problem of the seed in a cube with so
+/// many nodes on each axis, read no file, and write one line of what a search finds. Other words have no shape.
 ///
 /// | status | comes |
 /// |---|---|

@@ -7,6 +7,6 @@ pub struct LaneCount {
     pub lanes: u32,
     /// How many events the search had.
     pub events: u64,
-    /// In how many of them a lane lost its box.
+    /// How many of them lost a lane.
     pub lost: u64,
 }

@@ -20,15 +20,15 @@ use std::alloc::{AllocError, Global};
 /// station, phase, time in microseconds, weight in thousandths and residual, and a line `SKIP` for each other one with the number of its
 /// line in the phase file, station, phase and reason, both in the order of the phase file. A located event then has `HYPOCENTRE` with the
 /// place of its node on the axes and its place in millimetres, `ORIGIN` with date and time of day, `RMS` in microseconds, and `MET` with
-/// the number of boxes that were met; one that fits nowhere has `MET` alone. `LANES` follows where lanes are given. The certificate is the
-/// last item.
+/// the number of boxes that were met; one that fits nowhere has `MET` alone. `LANES` follows where lanes are given, whatever was found, so
+/// that it also stands where the budget was passed or too many nodes are near. The certificate is the last item.
 ///
 /// The residual of a pick is its time less its travel time to the hypocentre less the origin time; it is `-` unless the event is located.
 /// The origin time is that of `origin_time::origin` over the used picks with their weights, `RMS` is `origin_time::rms` of the residuals,
 /// and the date is that of jiff's calendar, with four digits of the year. The format is this project's own.
 ///
 /// What was found is given exactly for an event with a problem; its hypocentre is a node of the grid, and its lists are within the limits
-/// of a certificate. Want of memory is the only refusal.
+/// of a certificate. Lanes are given only where something was found. Want of memory is the only refusal.
 #[tactic(auto, unfolding(crate::specs::Blocks::block_of))]
 pub fn report(
     alloc: Global,

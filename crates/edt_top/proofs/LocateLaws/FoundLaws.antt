@@ -5,20 +5,26 @@ use Rattle.std.specs.Prelude.{IfSome, is_some, slice_get, unwrap_or}
 use Rattle.std.specs.Option.{option_copied, option_map}
 use Rattle.std.proofs.lemmas.List.{get_or-map}
 use Rattle.std.proofs.lemmas.Option.{unwrap_or-slice_get}
-use Rattle.control_reader.specs.ControlValues.{ControlValues}
+use Rattle.control_reader.specs.ControlValues.{ControlValues, values_of}
+use Rattle.edt_score.specs.BoxBound.{box_bound}
 use Rattle.edt_score.specs.Field.{FieldTimes}
+use Rattle.edt_score.specs.declared.problem.ProblemPick.{ProblemPick}
 use Rattle.octree_search.specs.declared.found.Found.{Found}
 use Rattle.event_assembly.specs.declared.assembly.Assembly.{Assembly}
 use Rattle.event_assembly.specs.declared.assembly.Prepared.{Prepared}
 use Rattle.event_assembly.specs.AssemblyValues.{EventCase, EventValues, Ready, Few, Many, assembly_value, event_value}
+use Rattle.node_boxes.specs.declared.frame.Frame.{Frame}
 use Rattle.node_boxes.specs.declared.node_box.NodeBox.{NodeBox}
-use Rattle.node_boxes.specs.Grid.{GridSize, node_count}
+use Rattle.node_boxes.specs.Grid.{GridSize, IsGrid, node_count}
 use Rattle.node_boxes.specs.Roots.{AreRoots}
 use Rattle.octree_search.specs.Meanings.{Says}
 use Rattle.octree_search.specs.Outcomes.{Outcome, IsLocated, FitsNowhere, PassesBudget, PassesNearLimit, found_value, outcome_of}
 use Rattle.octree_search.proofs.OutcomeMeanings.{outcome_says}
 use Rattle.location_report.specs.Reports.{IsTellable, event_at, has_problem, no_event}
-use Rattle.location_report.specs.Texts.{event_block, outcome_of_case}
+use Rattle.location_report.specs.Texts.{event_block, outcome_of_case, outcome_of_picks}
+use Rattle.run_input.specs.declared.input.RunInput.{RunInput}
+use Rattle.run_input.specs.Inputs.{IsInput}
+use Rattle.edt_top.proofs.SolveLaws.AnswerLines.{some_node}
 
 -- what an outcome says can be told in a block
 tellable : (g : GridSize) (roots : List NodeBox) (bound : NodeBox → ℕ) (margin budget : ℕ) → node_count g ≤ 2000000 → (found : Outcome)
@@ -35,6 +41,18 @@ pub outcome_tellable : (g : GridSize) (roots : List NodeBox) (bound : NodeBox �
     → node_count g ≤ 2000000 → (found : Outcome) → found ≡ outcome_of g roots bound margin budget → IsTellable g found
 outcome_tellable g roots bound margin budget are some few found is =
     tellable g roots bound margin budget few found (subst (Says g roots bound margin budget) (sym is) (outcome_says g roots bound margin budget are some))
+
+-- the outcome of picks of an input can be told in a block
+pub picks_tellable : (input : RunInput) → IsInput input → AreRoots input.assembly.field.grid input.assembly.field.roots → (picks : List ProblemPick)
+    → (found : Outcome) → found ≡ outcome_of_picks (values_of input.control) input.assembly.field picks → IsTellable input.assembly.frame.grid found
+picks_tellable input is are picks found found_is =
+    let field : FieldTimes = input.assembly.field in
+    let grid : field.grid ≡ input.control.frame.grid = is.assembled.grid in
+    let frame : field.grid ≡ input.assembly.frame.grid = grid ∙ sym (ap (λ (f : Frame). f.grid) is.assembled.frame) in
+    let is_grid : IsGrid field.grid = subst IsGrid (sym grid) is.control.grid in
+    subst (λ (size : GridSize). IsTellable size found) frame
+    (outcome_tellable field.grid field.roots (box_bound input.control.shape field picks) input.control.margin input.control.budget are
+    (some_node field.grid is_grid) is_grid.nodes found found_is)
 
 -- the event of a number stands one place before it
 pub event_at_place : (assembly : Assembly) (i : ℕ) → event_at assembly (i + 1) ≡ get_or (map event_value assembly.events.items) i no_event

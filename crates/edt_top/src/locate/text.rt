@@ -7,8 +7,8 @@ ghost use Rattle.kernel_table.specs.Falloff.{AnswersItsShape, shape_of};
 ghost use Rattle.octree_search.specs.Outcomes.{found_value};
 ghost use Rattle.event_assembly.specs.Assembled.{IsPrepared};
 ghost use Rattle.event_assembly.specs.AssemblyValues.{assembly_value, case_value};
-ghost use Rattle.location_report.specs.Reports.{IsTellable, event_at};
-ghost use Rattle.location_report.specs.Texts.{blocks_of, event_block, head_line, outcome_of_case};
+ghost use Rattle.location_report.specs.Reports.{IsTellable, event_at, lane_values};
+ghost use Rattle.location_report.specs.Texts.{blocks_of, event_block, head_line, lanes_of_case, outcome_of_case};
 ghost use Rattle.run_input.specs.Inputs.{IsInput, input_value};
 ghost use Rattle.run_input.specs.Told.{Wrote};
 ghost use Rattle.edt_top.specs.Locate.Covers.{AreCoversShortest};
@@ -16,11 +16,12 @@ ghost use Rattle.edt_top.specs.Locate.Text.{locate_parts};
 ghost use Rattle.edt_top.specs.Inside.Writing.{WritingEnds, write_failed};
 
 use crate::finding::find;
+use crate::locate::lanes::find_by_lanes;
 use crate::writing::{WriteFault, put_part};
 use edt_outside::Sink;
 use event_assembly::{Case, Prepared};
 use kernel_table::{Falloff, Shape, count, gauss, triangle};
-use location_report::report;
+use location_report::{LaneCount, report};
 use octree_search::Found;
 use run_input::RunInput;
 use std::alloc::{AllocError, Global};
@@ -108,7 +109,7 @@ fn write_blocks<O: Sink, F: Fn(u64, u64) -> u64>(
     Ok(())
 }
 
-// The block of the event at a place, whose number is one more, with what the search finds of it.
+// The block of the event at a place, whose number is one more, with what the search finds of it and what its lanes do.
 fn event_block<F: Fn(u64, u64) -> u64>(
     alloc: Global,
     input: &RunInput,
@@ -122,43 +123,51 @@ fn event_block<F: Fn(u64, u64) -> u64>(
     ensures { IfOk result (λ block. block.items ≡ event_block (values_of input.now.control)
         (assembly_value input.now.assembly) (place + 1, event_at input.now.assembly (place + 1))) }
 {
-    let found = find_event(alloc, input, &input.assembly.events[place], falloff)?;
+    let (found, lanes) = find_event(alloc, input, &input.assembly.events[place], falloff)?;
     report(
         alloc,
         place as u32 + 1,
         &input.assembly,
         found.as_ref(),
-        None,
+        lanes,
     )
 }
 
-// What the search finds of an event, unless it has few or many used picks.
+// What the search finds of an event, unless it has few or many used picks, and what its lanes do, where there are several.
 fn find_event<F: Fn(u64, u64) -> u64>(
     alloc: Global,
     input: &RunInput,
     event: &Prepared,
     falloff: &Falloff<F>,
-) -> Result<Option<Found>, AllocError>
+) -> Result<(Option<Found>, Option<LaneCount>), AllocError>
     requires input { IsInput input.now }
     requires prepared { IsPrepared (values_of input.now.control) input.now.assembly.field event.now }
     requires answers { AnswersItsShape F.Fn falloff.now }
     requires shape { shape_of falloff.now ≡ input.now.control.shape }
-    ensures value { IfOk result (λ found. option_map found_value found
+    ensures found { IfOk result (λ pair. option_map found_value pair.0
         ≡ outcome_of_case (values_of input.now.control) input.now.assembly.field (case_value event.now.case)) }
-    ensures tellable { IfOk result (λ found. IfSome found (λ f.
+    ensures lanes { IfOk result (λ pair. option_map lane_values pair.1
+        ≡ lanes_of_case (values_of input.now.control) input.now.assembly.field (case_value event.now.case)) }
+    ensures tellable { IfOk result (λ pair. IfSome pair.0 (λ f.
         IsTellable input.now.assembly.frame.grid (found_value f))) }
 {
     let Case::Ready(problem) = &event.case else {
-        return Ok(None);
+        return Ok((None, None));
     };
     let control = &input.control;
+    let field = &input.assembly.field;
+    let several = control.lanes > 1;
+    if several {
+        let (found, count) = find_by_lanes(alloc, field, problem, falloff, control)?;
+        return Ok((Some(found), Some(count)));
+    }
     let found = find(
         alloc,
-        &input.assembly.field,
+        field,
         problem,
         falloff,
         control.margin,
         control.budget,
     )?;
-    Ok(Some(found))
+    Ok((Some(found), None))
 }

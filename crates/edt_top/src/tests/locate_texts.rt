@@ -188,6 +188,86 @@ END
 }
 
 #[test]
+fn tells_what_lanes_do_and_changes_no_other_line(rt: HostRuntime) -> Result<(), Fail> {
+    let alloc = rt.alloc();
+    for (lanes, seed, line) in [
+        ("1", "54321", ""),
+        ("3", "54321", "LANES 3 EVENTS 4 LOST 0\n"),
+        // The first draw loses a lane.
+        ("3", "-1", "LANES 3 EVENTS 5 LOST 1\n"),
+        ("64", "54321", "LANES 64 EVENTS 4 LOST 0\n"),
+    ] {
+        let last = format!(in alloc; "{LAST_LINE}EDTLANES {lanes}\n")?;
+        let changes = [
+            Swap("e1.in", LAST_LINE, last.as_str()),
+            Swap("e1.in", "54321", seed),
+        ];
+        let met = format!(in alloc; "MET 5\n{line}")?;
+        let text = TEXT.replacen(alloc, "MET 5\n", met.as_str(), 1)?;
+        expect_text(&rt, alloc, &changes, text.as_str())?;
+    }
+    Ok(())
+}
+
+#[test]
+fn tells_the_lanes_of_each_event_that_has_a_problem(rt: HostRuntime) -> Result<(), Fail> {
+    for (change, text) in [
+        (
+            Swap("e1.in", "LOCSEARCH OCT 1", "EDTBUDGET 4\nLOCSEARCH OCT 1"),
+            "EDTLOC 1 EVENTS 1 PASSED 2 0
+EVENT 1 PICKS 2 SKIPPED 0
+PICK AAA P 761523405000000 1000 -
+PICK BBB P 761523406000000 1000 -
+LANES 3 EVENTS 4 LOST 0
+CERT BUDGET
+END
+",
+        ),
+        // The roots alone pass the budget.
+        (
+            Swap("e1.in", "LOCSEARCH OCT 1", "EDTBUDGET 3\nLOCSEARCH OCT 4"),
+            "EDTLOC 1 EVENTS 1 PASSED 2 0
+EVENT 1 PICKS 2 SKIPPED 0
+PICK AAA P 761523405000000 1000 -
+PICK BBB P 761523406000000 1000 -
+LANES 3 EVENTS 0 LOST 0
+CERT BUDGET
+END
+",
+        ),
+        (
+            Swap("obs.txt", "46.0000", "56.0000"),
+            "EDTLOC 1 EVENTS 1 PASSED 2 0
+EVENT 1 PICKS 2 SKIPPED 0
+PICK AAA P 761523405000000 1000 -
+PICK BBB P 761523416000000 1000 -
+MET 1
+LANES 3 EVENTS 0 LOST 0
+CERT NOFIT
+COVER 1
+0 4 0 1 0 1 0
+END
+",
+        ),
+        // Few picks are no problem, and nothing is searched.
+        (
+            Swap("e1.in", "EDT 9999.0", "EDT 1.0"),
+            "EDTLOC 1 EVENTS 1 PASSED 2 0
+EVENT 1 PICKS 0 SKIPPED 2
+SKIP 1 AAA P FAR
+SKIP 2 BBB P FAR
+CERT FEW
+END
+",
+        ),
+    ] {
+        let changes = [Swap("e1.in", "# sample", "EDTLANES 3"), change];
+        expect_text(&rt, rt.alloc(), &changes, text)?;
+    }
+    Ok(())
+}
+
+#[test]
 fn locates_no_event_of_more_than_256_used_picks(rt: HostRuntime) -> Result<(), Fail> {
     let alloc = rt.alloc();
     // Duplicates aren't rejected.
