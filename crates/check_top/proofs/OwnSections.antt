@@ -1,5 +1,5 @@
 -- The text that a run that locates writes is read as a report.
-use Rattle.std.proofs.Common.{◌≡◌, ℕ, suc, ◌+◌, ◌<◌, ◌≤◌, ◌^◌, true, List, [], ◌∷◌, ◌++◌, length, drop, map, Some, None, Ok, refl, ◌∙◌, ap, arith}
+use Rattle.std.proofs.Common.{◌≡◌, ℕ, suc, ◌+◌, ◌<◌, ◌≤◌, ◌^◌, true, List, [], ◌∷◌, ◌++◌, length, drop, map, Option, Some, None, Ok, refl, ◌∙◌, ap, arith}
 use Rattle.std.specs.Prelude.{flat_map, codes}
 use Rattle.std.specs.List.{AllByRecursion, enumerate_from}
 use Rattle.text_terms.specs.Lines.{LineText, lines_of}
@@ -11,8 +11,8 @@ use Rattle.cover_certificate.proofs.TextLaws.{lines_back}
 use Rattle.event_assembly.specs.AssemblyValues.{EventValues}
 use Rattle.location_report.specs.BlockForms.{IsBefore}
 use Rattle.location_report.specs.Blocks.{first_line, lines_between}
-use Rattle.location_report.specs.Lines.{line_of}
-use Rattle.location_report.specs.Texts.{event_block, head_line, outcome_of_case}
+use Rattle.location_report.specs.Lines.{LaneValues, line_of}
+use Rattle.location_report.specs.Texts.{event_block, head_line, lanes_of_case, outcome_of_case}
 use Rattle.location_report.proofs.FormLaws.{all_before, block_of-lines}
 use Rattle.run_input.specs.Inputs.{InputValues}
 use Rattle.check_top.specs.ReportLines.{begins_certificate, event_cause}
@@ -63,15 +63,16 @@ sections_read input [] passed number plain few = refl
 sections_read input (event ∷ events) passed number plain few =
     let outcome = outcome_of_case input.control input.assembly.field event.case in
     let block : BlockValue = own_block input event in
-    let between : List LineText = lines_between input.assembly.frame input.assembly.field event outcome None in
+    let lanes : Option LaneValues = lanes_of_case input.control input.assembly.field event.case in
+    let between : List LineText = lines_between input.assembly.frame input.assembly.field event outcome lanes in
     let rest : List LineText = lines_of (text_from input (number + 1) events) in
     let lines : lines_of (text_from input number (event ∷ events)) ≡ first_line number event ∷ (between ++ (block_lines block ++ rest)) =
-    block_of-lines input.assembly.frame input.assembly.field number event outcome None (text_from input (number + 1) events) plain.0.plain in
+    block_of-lines input.assembly.frame input.assembly.field number event outcome lanes (text_from input (number + 1) events) plain.0.plain in
     let cause : event_cause number (Some (first_line number event)) ≡ None = event_read number event (omega (arith, few)) plain.0.used plain.0.skipped in
     let next : ℕ = passed + 1 + length between + length (block_lines block) in
     let section : section_of passed number (first_line number event ∷ (between ++ (block_lines block ++ rest))) ≡ Ok (record { block = block; passed = next; rest = rest }) =
     section_read passed number (first_line number event) between rest block cause
-    (all_before input.assembly.frame input.assembly.field event outcome None) plain.0.plain.valid plain.0.plain.typed in
+    (all_before input.assembly.frame input.assembly.field event outcome lanes) plain.0.plain.valid plain.0.plain.typed in
     let more : sections next (number + 1) (length events) rest ≡ Ok (map (own_block input) events) =
     sections_read input events next (number + 1) plain.1 (omega (arith, few)) in
     rw (lines, section, more) refl

@@ -1,6 +1,6 @@
-//! Runs that are refused, and calls and writes that fail.
+//! Runs that are refused.
 
-use super::running::{Change, Ending, PROVED, Run, expect, expect_refused, plain};
+use super::running::{Change, Ending, Run, expect, expect_refused, plain};
 use std::process::Abort;
 use std::test::Fail;
 
@@ -85,9 +85,8 @@ fn words_without_a_shape_do_nothing(rt: HostRuntime) -> Result<(), Fail> {
     for words in words {
         let run = Run {
             words,
-            changes: &[],
             failing_calls: &[1],
-            failing_writes: &[],
+            ..plain(&[])
         };
         let ending = Ending {
             status: 2,
@@ -97,71 +96,4 @@ fn words_without_a_shape_do_nothing(rt: HostRuntime) -> Result<(), Fail> {
         expect(&rt, rt.alloc(), &run, &ending)?;
     }
     Ok(())
-}
-
-// The calls of a run on the sample, each with the file that it is of: two reads for a small file, and `has` before a header.
-const CALLS: [&str; 23] = [
-    "e1.in",
-    "e1.in",
-    "e1.in",
-    "obs.txt",
-    "obs.txt",
-    "obs.txt",
-    "time/a.P.AAA.time.hdr",
-    "time/a.P.AAA.time.hdr",
-    "time/a.P.AAA.time.hdr",
-    "time/a.P.AAA.time.hdr",
-    "time/a.P.BBB.time.hdr",
-    "time/a.P.BBB.time.hdr",
-    "time/a.P.BBB.time.hdr",
-    "time/a.P.BBB.time.hdr",
-    "time/a.P.AAA.time.usec",
-    "time/a.P.AAA.time.usec",
-    "time/a.P.AAA.time.usec",
-    "time/a.P.BBB.time.usec",
-    "time/a.P.BBB.time.usec",
-    "time/a.P.BBB.time.usec",
-    "e1.report",
-    "e1.report",
-    "e1.report",
-];
-
-#[test]
-fn a_call_or_a_write_that_fails_is_told(rt: HostRuntime) -> Result<(), Fail> {
-    let alloc = rt.alloc();
-    let mut number: u64 = 0;
-    for name in CALLS {
-        number = number.wrapping_add(1);
-        let run = Run {
-            failing_calls: &[number],
-            ..plain(&[])
-        };
-        let line = format!(in alloc; "edtcheck: read {name}\n")?;
-        let ending = Ending {
-            status: 7,
-            out: "",
-            err: line.as_str(),
-        };
-        expect(&rt, alloc, &run, &ending)?;
-    }
-    let run = Run {
-        failing_calls: &[24],
-        ..plain(&[])
-    };
-    let ending = Ending {
-        status: 0,
-        out: PROVED,
-        err: "",
-    };
-    expect(&rt, alloc, &run, &ending)?;
-    let run = Run {
-        failing_writes: &[2],
-        ..plain(&[])
-    };
-    let ending = Ending {
-        status: 8,
-        out: "CHECK 1 PR",
-        err: "edtcheck: write\n",
-    };
-    expect(&rt, alloc, &run, &ending)
 }

@@ -1,7 +1,7 @@
 //! A sample of two stations over four nodes in a row with its report, its changes, and what a run over them is to end with.
 
 use crate::check_run;
-use edt_outside::{MemoryShelf, MemorySink, Name, names_differ};
+use edt_outside::{MemoryShelf, MemorySink, Name, Shelf, names_differ};
 use std::alloc::Global;
 use std::process::Abort;
 use std::test::Fail;
@@ -17,23 +17,23 @@ LOCGAU 0.1 0.0
 LOCSEARCH OCT 1 1 1 0.01 10000 5000 0 1
 ";
 
-const PHASES: &str = "AAA ? ? ? P U 19940217 2216 45.0000 GAU 1.00e-01 -1.00e+00 -1.00e+00 -1.00e+00
+pub const PHASES: &str = "AAA ? ? ? P U 19940217 2216 45.0000 GAU 1.00e-01 -1.00e+00 -1.00e+00 -1.00e+00
 BBB ? ? ? P U 19940217 2216 46.0000 GAU 1.00e-01 -1.00e+00 -1.00e+00 -1.00e+00
 ";
 
-const FIRST_HEADER: &str = "4 1 1 10.0 0.0 0.0 1.0 1.0 1.0 TIME USEC32
+pub const FIRST_HEADER: &str = "4 1 1 10.0 0.0 0.0 1.0 1.0 1.0 TIME USEC32
 AAA 10.0 0.0 0.0
 ";
 
-const SECOND_HEADER: &str = "4 1 1 10.0 0.0 0.0 1.0 1.0 1.0 TIME USEC32
+pub const SECOND_HEADER: &str = "4 1 1 10.0 0.0 0.0 1.0 1.0 1.0 TIME USEC32
 BBB 13.0 0.0 0.0
 ";
 
 // 1, 2, 3 and 4 seconds.
-const FIRST_BODY: &[u8] = b"\x40\x42\x0f\x00\x80\x84\x1e\x00\xc0\xc6\x2d\x00\x00\x09\x3d\x00";
+pub const FIRST_BODY: &[u8] = b"\x40\x42\x0f\x00\x80\x84\x1e\x00\xc0\xc6\x2d\x00\x00\x09\x3d\x00";
 
 // 2 seconds at each node.
-const SECOND_BODY: &[u8] = b"\x80\x84\x1e\x00\x80\x84\x1e\x00\x80\x84\x1e\x00\x80\x84\x1e\x00";
+pub const SECOND_BODY: &[u8] = b"\x80\x84\x1e\x00\x80\x84\x1e\x00\x80\x84\x1e\x00\x80\x84\x1e\x00";
 
 pub const REPORT: &str = "EDTLOC 1 EVENTS 1 PASSED 2 0
 EVENT 1 PICKS 2 SKIPPED 0
@@ -66,13 +66,17 @@ pub enum Change<'a> {
     Remove(&'a str),
 }
 
-// A run: the changes of the sample, the numbers of the calls and of the writes that fail.
+// A run: its words, the changes of the sample, how many bytes a read gives and a write takes at most, and the numbers of the calls and of
+// the writes that fail.
 #[derive(Clone, Copy)]
 pub struct Run<'a> {
     pub words: &'a [&'a str],
     pub changes: &'a [Change<'a>],
+    pub piece: usize,
+    pub taking: usize,
     pub failing_calls: &'a [u64],
     pub failing_writes: &'a [u64],
+    pub failing_errors: &'a [u64],
 }
 
 // A run over the changed sample in which nothing fails.
@@ -80,8 +84,11 @@ pub fn plain<'a>(changes: &'a [Change<'a>]) -> Run<'a> {
     Run {
         words: &["e1.in", "e1.report"],
         changes,
+        piece: 65536,
+        taking: 10,
         failing_calls: &[],
         failing_writes: &[],
+        failing_errors: &[],
     }
 }
 
@@ -139,19 +146,41 @@ pub struct Ending<'a> {
     pub err: &'a str,
 }
 
-// Runs, and asserts what it ends with.
-pub fn expect(rt: &impl Abort, alloc: Global, run: &Run, ending: &Ending) -> Result<(), Fail> {
+// A sink that takes so many bytes a write.
+fn sink(alloc: Global, taking: usize, failing: &[u64]) -> Result<MemorySink, Fail> {
+    Ok(MemorySink::new(alloc, 20_000, taking.max(1), failing.to_vec(alloc)?)?)
+}
+
+// A shelf in memory of the files of a run.
+pub fn shelf_of(rt: &impl Abort, alloc: Global, run: &Run) -> Result<MemoryShelf, Fail> {
     let files = files_of(rt, alloc, run.changes)?;
     assert!(rt; names_differ(&files));
-    let mut shelf = MemoryShelf::new(files, 65536, run.failing_calls.to_vec(alloc)?);
+    assert!(rt; 1 <= run.piece);
+    Ok(MemoryShelf::new(files, run.piece, run.failing_calls.to_vec(alloc)?))
+}
+
+// Runs, and asserts what it ends with.
+pub fn expect(rt: &impl Abort, alloc: Global, run: &Run, ending: &Ending) -> Result<(), Fail> {
+    let mut shelf = shelf_of(rt, alloc, run)?;
+    expect_over(rt, alloc, &mut shelf, run, ending)
+}
+
+// Runs over this shelf, and asserts what it ends with.
+pub fn expect_over<S: Shelf>(
+    rt: &impl Abort,
+    alloc: Global,
+    shelf: &mut S,
+    run: &Run,
+    ending: &Ending,
+) -> Result<(), Fail> {
     let mut words = Vec::new(alloc);
     for word in run.words {
         words.push(String::from_str(alloc, word)?)?;
     }
-    let mut output = MemorySink::new(alloc, 20_000, 10, run.failing_writes.to_vec(alloc)?)?;
-    let mut errors = MemorySink::new(alloc, 20_000, 10, Vec::new(alloc))?;
+    let mut output = sink(alloc, run.taking, run.failing_writes)?;
+    let mut errors = sink(alloc, run.taking, run.failing_errors)?;
     assert_eq!(rt;
-        check_run(alloc, &words, &mut shelf, &mut output, &mut errors),
+        check_run(alloc, &words, shelf, &mut output, &mut errors),
         ending.status,
         "of {} {}",
         ending.out,

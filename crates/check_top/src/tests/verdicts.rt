@@ -82,6 +82,17 @@ fn any_cover_proves_whose_bounds_do(rt: HostRuntime) -> Result<(), Fail> {
     )
 }
 
+// The text that a run of three lanes writes, and one of lanes that the control file doesn't give.
+#[test]
+fn the_line_of_the_lanes_is_passed_over(rt: HostRuntime) -> Result<(), Fail> {
+    let alloc = rt.alloc();
+    let told = Change::Swap("e1.report", "MET 5\n", "MET 5\nLANES 3 EVENTS 4 LOST 0\n");
+    let given = Change::Swap("e1.in", "LOCGAU", "EDTLANES 3\nLOCGAU");
+    expect_line(&rt, alloc, &[told, given], 0, PROVED)?;
+    expect_line(&rt, alloc, &[told], 0, PROVED)?;
+    expect_line(&rt, alloc, &[given], 0, PROVED)
+}
+
 // The sample in which no pair ever fits, and a certificate of that.
 #[test]
 fn no_fit_is_proved_where_no_node_scores(rt: HostRuntime) -> Result<(), Fail> {
