@@ -17,6 +17,7 @@ FORMS = {
     "ORIGIN": "ORIGIN ([0-9]{{4,}}-[0-9]{{2}}-[0-9]{{2}} [0-9]{{2}}:[0-9]{{2}}:[0-9]{{2}}\\.[0-9]{{6}})",
     "RMS": "RMS {n}",
     "MET": "MET {n}",
+    "LANES": "LANES {n} EVENTS {n} LOST {n}",
     "CERT": "CERT (LOCATED|NOFIT|FEW|MANY|BUDGET|NEARLIMIT)",
     "BEST": "BEST {n} {n}",
     "NEAR": "NEAR {n}",
@@ -28,7 +29,7 @@ FORMS = {
 FORMS = {
     kind: re.compile(form.format(n=NUMBER, s=SIGNED, name=NAME, reason=REASON)) for kind, form in FORMS.items()
 }
-BEGINS_RESULT = ("HYPOCENTRE", "MET", "CERT")
+BEGINS_RESULT = ("HYPOCENTRE", "MET", "LANES", "CERT")
 
 
 class Event:
@@ -103,16 +104,19 @@ class Report:
         event.picks = [self.line("PICK")[1] for _ in range(used)]
         event.skips = [self.line("SKIP")[1] for _ in range(skipped)]
         kind, words = self.line(*BEGINS_RESULT)
-        if kind == "HYPOCENTRE":
+        first = kind
+        if first == "HYPOCENTRE":
             self.read_hypocentre(event, [int(word) for word in words])
-        elif kind == "MET":
+        elif first == "MET":
             event.met = int(words[0])
-        if kind != "CERT":
+        if first in ("HYPOCENTRE", "MET"):
+            kind, words = self.line("LANES", "CERT")
+        if kind == "LANES":
             words = self.line("CERT")[1]
         event.outcome = words[0]
-        expected = {"LOCATED": "HYPOCENTRE", "NOFIT": "MET"}.get(event.outcome, "CERT")
-        if kind != expected:
-            self.refuse("%s doesn't follow %s" % (event.outcome, kind))
+        expected = {"LOCATED": ["HYPOCENTRE"], "NOFIT": ["MET"], "FEW": ["CERT"], "MANY": ["CERT"]}
+        if first not in expected.get(event.outcome, ["LANES", "CERT"]):
+            self.refuse("%s doesn't follow %s" % (event.outcome, first))
         if event.outcome == "LOCATED":
             self.read_best(event)
         if event.outcome in ("LOCATED", "NOFIT"):

@@ -28,6 +28,7 @@ HYPOCENTRE 0 0 0 -1000000 500000 0
 ORIGIN 1999-12-31 23:59:59.999999
 RMS 5
 MET 1
+LANES 3 EVENTS 4 LOST 1
 CERT LOCATED
 BEST 0 9
 NEAR 2
@@ -37,6 +38,7 @@ COVER 1
 0 3 0 2 0 2 9
 END
 EVENT 2 PICKS 0 SKIPPED 0
+LANES 2 EVENTS 0 LOST 0
 CERT BUDGET
 END
 EVENT 3 PICKS 1 SKIPPED 0
@@ -75,13 +77,13 @@ class ReportTable(ToolTest):
         table = [
             (1, "EDTLOC 2 EVENTS 5 PASSED 2 0", "isn't a line of the form EDTLOC"),
             (2, "EVENT 2 PICKS 20 SKIPPED 0", "event 2 stands in place of event 1"),
-            (2, "EVENT 1 PICKS 19 SKIPPED 0", "line 22: isn't a line of the form HYPOCENTRE or MET or CERT"),
+            (2, "EVENT 1 PICKS 19 SKIPPED 0", "line 22: isn't a line of the form HYPOCENTRE or MET or LANES or CERT"),
             (2, "EVENT 1 PICKS 21 SKIPPED 0", "line 23: isn't a line of the form PICK"),
             (3, "PICK ST01  P 761523406590000 1000 -39926", "isn't a line of the form PICK"),
             (3, "PICK ST01 P 0761523406590000 1000 -39926", "isn't a line of the form PICK"),
             (3, "PICK ST\u00e9 P 761523406590000 1000 -39926", "isn't a line of the form PICK"),
             (3, "P" * 5000, "no line of a report has so many bytes"),
-            (23, "HYPOCENTRE 6 5 4 12.0 10.0 8.0", "isn't a line of the form HYPOCENTRE or MET or CERT"),
+            (23, "HYPOCENTRE 6 5 4 12.0 10.0 8.0", "isn't a line of the form HYPOCENTRE or MET or LANES or CERT"),
             (24, "ORIGIN 1994-02-17T22:16:43.999970", "isn't a line of the form ORIGIN"),
             (27, "CERT FEW", "FEW doesn't follow HYPOCENTRE"),
             (29, "NEAR 2", "line 31: isn't a line of the form near node"),
@@ -90,6 +92,8 @@ class ReportTable(ToolTest):
             (133, "", "isn't a line of the form END"),
             (158, "SKIP 45 ST12 S WHY", "isn't a line of the form SKIP"),
             (421, "CERT NOFIT", "NOFIT doesn't follow CERT"),
+            (421, "LANES 2 EVENTS 0 LOST 0\nCERT FEW", "line 422: FEW doesn't follow LANES"),
+            (421, "LANES 2 EVENTS 0\nCERT BUDGET", "isn't a line of the form HYPOCENTRE or MET or LANES or CERT"),
         ]
         for number, line, cause in table:
             with self.subTest(line):
