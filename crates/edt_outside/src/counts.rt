@@ -1,3 +1,4 @@
+//! Counts of calls that end at their last value.
 ghost use Rattle.std.specs.Prelude.{◌≡◌, ◌↔◌, ℕ, ◌-◌, ◌^◌, ◌<◌, Bool, IsTrue};
 ghost use Rattle.edt_outside.specs.Counts.{Rose, RisesExactly, one_more};
 

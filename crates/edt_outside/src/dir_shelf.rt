@@ -1,3 +1,4 @@
+//! The shelf of the system's own files.
 ghost use Rattle.std.specs.Prelude.{◌≡◌, ◌^◌, ◌<◌, None};
 
 use crate::counts::count_up;

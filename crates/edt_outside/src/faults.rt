@@ -1,4 +1,4 @@
-// The refusals of shelves and sinks.
+//! The refusals of shelves and sinks.
 ghost use Rattle.std.specs.Prelude.{◌≡◌};
 ghost use Rattle.edt_outside.specs.declared.faults.ReadFault.TheVariants.{Memory};
 

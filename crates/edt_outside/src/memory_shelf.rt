@@ -1,3 +1,4 @@
+//! A shelf in memory, for tests and proofs: it fails at the calls that it is told.
 ghost use Rattle.std.specs.Prelude.{◌≡◌, ◌≢◌, ◌↔◌, List, [], ℕ, ◌+◌, ◌^◌, ◌<◌, ◌≤◌, length, min, take, drop, is_err, is_ok, is_some, Option, Some, IsTrue, IfSome, IfOk, OnOk, OnErr, IsErr, IsErrOf, Contains, None, MatchOption, position};
 ghost use Rattle.std.specs.List.{list_any};
 ghost use Rattle.std.specs.Result.{result_unwrap_or};

@@ -1,3 +1,4 @@
+//! A sink in memory, for tests and proofs: it fails at the writes that it is told, or is full.
 ghost use Rattle.std.specs.Prelude.{◌≡◌, ◌↔◌, [], ℕ, ◌+◌, ◌-◌, ◌^◌, ◌<◌, ◌≤◌, ◌++◌, length, min, take, Some, IfOk, OnErr, IsErr, Contains};
 ghost use Rattle.std.specs.Result.{result_unwrap_or};
 ghost use Rattle.edt_outside.specs.Counts.{Rose, one_more, one_more_if};

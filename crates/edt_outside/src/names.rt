@@ -1,3 +1,4 @@
+//! The names of the files of a shelf in memory.
 ghost use Rattle.std.specs.Prelude.{◌≡◌, IfOk};
 ghost use Rattle.std.specs.Str.{bytes_eq};
 

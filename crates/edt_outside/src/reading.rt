@@ -1,3 +1,4 @@
+//! A whole file is read, in whatever pieces it comes.
 ghost use Rattle.std.specs.Prelude.{◌≡◌, [], ℕ, ◌+◌, ◌<◌, ◌≤◌, length, take, vec_len, Some, IfSome, OnSome, IfOk, OnOk};
 ghost use Rattle.edt_outside.specs.Counts.{RisesExactly};
 ghost use Rattle.edt_outside.specs.ReadFaults.{read_failed, read_absent, ReadsWhole, ReadsRest};

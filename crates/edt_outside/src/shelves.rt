@@ -1,3 +1,4 @@
+//! What every shelf is: where files are read from.
 ghost use Rattle.std.specs.Prelude.{◌≡◌, List, [], ℕ, ◌+◌, ◌^◌, ◌<◌, ◌≤◌, length, is_err, Option, IfSome, IfOk, OnErr};
 ghost use Rattle.edt_outside.specs.Counts.{RisesExactly};
 ghost use Rattle.edt_outside.specs.HasFaults.{has_failed, is_lacking, Tells};

@@ -1,3 +1,4 @@
+//! What every sink is: where bytes are written to.
 ghost use Rattle.std.specs.Prelude.{◌≡◌, List, ℕ, ◌^◌, ◌<◌, ◌≤◌, length, take, Option, IfOk, OnErr};
 ghost use Rattle.edt_outside.specs.Counts.{Rose};
 ghost use Rattle.edt_outside.specs.Sinks.{Appends};

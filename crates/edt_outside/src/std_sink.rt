@@ -1,3 +1,4 @@
+//! The sinks of the system: standard output and standard error.
 ghost use Rattle.std.specs.Prelude.{◌≡◌, ◌^◌, ◌<◌, None};
 
 use crate::counts::count_up;

@@ -1,3 +1,4 @@
+//! All bytes are written, in as many pieces as the sink needs.
 ghost use Rattle.std.specs.Prelude.{◌≡◌, ◌<◌, length, take, is_err, IfErr, OnOk};
 ghost use Rattle.edt_outside.specs.Counts.{RisesExactly};
 ghost use Rattle.edt_outside.specs.Sinks.{Appends};

@@ -1,3 +1,4 @@
+//! The travel times of all rows over one grid.
 ghost use Rattle.std.specs.Prelude.{◌≡◌, ◌+◌, ◌^◌, ◌<◌, ◌≤◌, [], ◌∷◌, ◌++◌, All, length, IfOk, IfSome, OnErr, OnOk};
 ghost use Rattle.node_boxes.specs.Boxes.{IsIn};
 ghost use Rattle.node_boxes.specs.BoxNodes.{box_nodes};

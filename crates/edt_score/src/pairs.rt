@@ -1,3 +1,4 @@
+//! Scale and weight of each pair of picks, made once.
 ghost use Rattle.std.specs.Prelude.{◌≡◌, ◌++◌, ◌≤◌, All, IfOk, OnOk, length, map};
 ghost use Rattle.edt_score.specs.Inside.Pairs.{IsPairable};
 ghost use Rattle.edt_score.specs.PairTerms.{pairs_of, terms_of};

@@ -1,3 +1,4 @@
+//! The picks of an event, as the score needs them.
 /// A used pick of an event.
 #[derive(Clone, Copy, Debug)]
 pub struct ProblemPick {

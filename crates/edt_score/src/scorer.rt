@@ -1,3 +1,4 @@
+//! The score of a node and the bounds of boxes, for one problem and one kernel.
 ghost use Rattle.std.specs.Prelude.{◌≡◌, ◌*◌, ◌^◌, ◌<◌, ◌≤◌, IfOk, length};
 ghost use Rattle.node_boxes.specs.Octree.{IsOctreeBox};
 ghost use Rattle.node_boxes.specs.Grid.{node_count};

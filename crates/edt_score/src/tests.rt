@@ -1,3 +1,4 @@
+//! Scores, bounds and counts at worked values.
 ghost use Rattle.std.specs.Prelude.{◌≡◌, ◌≤◌, ◌-ℤ◌, [], ◌∷◌, IfOk, length, unsigned_abs};
 ghost use Rattle.node_boxes.specs.Grid.{GridSize, grid_size};
 ghost use Rattle.node_boxes.specs.Roots.{AreRoots};

@@ -1,3 +1,4 @@
+//! The three kernels: what a misfit is worth at a scale.
 ghost use Rattle.std.specs.Prelude.{◌≡◌, ◌*◌, ◌/◌, ◌^◌, ◌<◌, ◌≤◌};
 ghost use Rattle.kernel_table.specs.Kernel.{kernel_value, count_value};
 

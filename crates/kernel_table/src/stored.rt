@@ -1,3 +1,4 @@
+//! A kernel as a closure that a loop over pairs calls directly.
 ghost use Rattle.std.specs.Prelude.{◌≡◌, ◌^◌, ◌≤◌, ℕ};
 ghost use Rattle.kernel_table.specs.Kernel.{kernel_value};
 ghost use Rattle.kernel_table.specs.Falloff.{Computes, AnswersItsShape, shape_of};

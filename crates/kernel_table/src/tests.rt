@@ -1,3 +1,4 @@
+//! The kernels at the steps and the ends of their ranges.
 ghost use Rattle.std.specs.Prelude.{◌≤◌};
 ghost use Rattle.kernel_table.specs.Falloff.{AnswersItsShape};
 

@@ -1,3 +1,4 @@
+-- Where a grid lies: origins and spacings within their limits.
 use Rattle.std.specs.Prelude.{ℤ, pos, ◌≤◌, ◌≤ℤ◌, ◌^◌, unsigned_abs}
 use Rattle.node_boxes.specs.declared.frame.Frame.{Frame}
 

@@ -1,3 +1,4 @@
+-- How many nodes a grid has on its axes, and when it is a valid one.
 use Rattle.std.specs.Prelude.{ℕ, ◌≤◌, ◌*◌}
 
 -- the nodes on each axis of a grid

@@ -1,3 +1,4 @@
+-- Grid order: the number of each node, and the list of all.
 use Rattle.std.specs.Prelude.{ℕ, List, ◌<◌, ◌+◌, ◌*◌, ◌/◌, ◌%◌}
 use Rattle.std.specs.List.{range_with_len}
 use Rattle.node_boxes.specs.Grid.{GridSize}

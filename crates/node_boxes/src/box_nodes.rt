@@ -1,3 +1,4 @@
+//! The nodes of a box, one after another in grid order.
 ghost use Rattle.std.specs.Prelude.{◌≡◌, [], ◌∷◌, MatchOption};
 ghost use Rattle.node_boxes.specs.Boxes.{IsIn};
 ghost use Rattle.node_boxes.specs.BoxNodes.{box_nodes};

@@ -1,3 +1,4 @@
+//! The children of a box: each axis of more than one node is halved.
 ghost use Rattle.std.specs.Prelude.{◌≡◌, ◌<◌, ◌≤◌, ◌-◌, length, slice_get};
 ghost use Rattle.node_boxes.specs.Boxes.{IsSplittable};
 ghost use Rattle.node_boxes.specs.Children.{children_of, halves};

@@ -1,3 +1,4 @@
+//! Where a grid lies.
 use crate::grid::Grid;
 
 /// Where a grid lies: its first node is at `(ox, oy, oz)`, and `dx`, `dy` and `dz` part its nodes

@@ -1,3 +1,4 @@
+//! How many nodes a grid has, and their numbers.
 ghost use Rattle.std.specs.Prelude.{◌≡◌, ℕ, ◌+◌, ◌*◌, ◌<◌, ◌≤◌, ◌↔◌, length, IsSome, IfSome, IsTrue, Some, slice_get};
 ghost use Rattle.node_boxes.specs.Grid.{GridSize, IsGrid, grid_size, node_count};
 ghost use Rattle.node_boxes.specs.GridOrder.{IsInside, all_nodes, node_number, place_of};

@@ -1,3 +1,4 @@
+//! What holds of grid order, children, roots, the octree and walks over boxes.
 ghost use Rattle.std.specs.Prelude.{◌≡◌, ℕ, ◌*◌, ◌<◌, ◌≤◌, List, length, All, AllPairs, Contains, IsTrue, cond};
 ghost use Rattle.node_boxes.specs.declared.node_box.NodeBox.{NodeBox};
 ghost use Rattle.node_boxes.specs.Grid.{GridSize, IsGrid, node_count};

@@ -1,3 +1,4 @@
+//! A box of nodes, and one with a bound.
 ghost use Rattle.std.specs.Prelude.{◌≡◌, ◌<◌, ◌≤◌, ◌-◌, ◌==◌, ◌↔◌, IsTrue};
 ghost use Rattle.node_boxes.specs.Boxes.{IsIn, IsSplittable, contains, is_single};
 ghost use Rattle.node_boxes.specs.Children.{children_of};

@@ -1,3 +1,4 @@
+//! The roots of an octree: the parts of a grid by counts on its axes.
 ghost use Rattle.std.specs.Prelude.{◌≡◌, ◌<◌, ◌≤◌, ◌++◌, map, IfOk, OnOk};
 ghost use Rattle.std.specs.List.{flat_map};
 ghost use Rattle.node_boxes.specs.BoxLists.{box_of};

@@ -1,3 +1,4 @@
+-- The least number whose square reaches another.
 use Rattle.std.specs.Prelude.{ℕ, ◌≤◌, ◌*◌}
 
 -- `root` is the least number whose square is at least `n`

@@ -1,3 +1,4 @@
+-- The scale of a pair of picks, by their variances.
 use Rattle.std.specs.Prelude.{ℕ, Bool, ◌≤◌, ◌+◌, ◌*◌, suc, zero, nat_le, if◌then◌else◌}
 
 -- `scale` is the least number from 1000 on whose square is at least the sum of two variances

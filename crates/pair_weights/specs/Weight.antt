@@ -1,3 +1,4 @@
+-- The weight of a pair of picks, by their prior weights and their scale.
 use Rattle.std.specs.Prelude.{ℕ, ◌*◌, ◌/◌}
 
 -- the weight of a pair of picks with the prior weights `pa` and `pb` and the scale `s`

@@ -82,6 +82,7 @@ fn plain_control(alloc: Global) -> Result<Control, Fail>
         margin: 0,
         budget: 1,
         shape: Shape::Gauss,
+        lanes: 1,
         passed: 0,
     })
 }

@@ -1,2 +1,2 @@
-// Words for texts, in specs/ alone: lines, words, numerals, and the first faulty item of a list.
+//! Words for texts, in specs/ alone: lines, words, numerals, and the first faulty item of a list.
 #![tactic(auto)]

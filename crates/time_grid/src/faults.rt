@@ -1,4 +1,4 @@
-// The refusals of this crate.
+//! Why a body is refused, and the axes.
 ghost use Rattle.std.specs.Prelude.{◌≡◌};
 ghost use Rattle.time_grid.specs.declared.faults.AlignFault.TheVariants.{Memory as align_memory};
 ghost use Rattle.time_grid.specs.declared.faults.GridFault.TheVariants.{Memory as grid_memory};
