@@ -1,10 +1,10 @@
 -- Bytes that may form a name.
-use Rattle.std.proofs.Common.{◌≡◌, ℕ, ◌<◌, ◌≤◌, true, not, List, length, get_or, None, inl, inr, refl, lit<, arith}
+use Rattle.std.proofs.Common.{◌≡◌, ℕ, ◌<◌, ◌≤◌, true, IsTrue, not, List, length, get_or, None, inl, inr, refl, lit<, arith}
 use Rattle.std.specs.Prelude.{position, nat_le}
 use Rattle.std.specs.List.{list_all}
 use Rattle.std.specs.Str.{IsUtf8}
 use Rattle.std.proofs.lemmas.List.{get_or_default}
-use Rattle.std.proofs.lemmas.List.Sums.{list_all-from_AllPass}
+use Rattle.std.proofs.lemmas.List.Sums.{AllPass-from_list_all, list_all-from_AllPass}
 use Rattle.std.proofs.lemmas.Str.{IsUtf8-from_ascii}
 use Rattle.std.proofs.lemmas.Grind.{common_steps}
 use Rattle.std.proofs.Math.ListN.{get_or-eq_default}
@@ -26,17 +26,18 @@ is_name-from_search bytes some few none =
     let high : nat_le (length bytes) 512 ≡ true = grind (arith, common_steps) in
     rw (low, high, all) refl
 
--- a byte of a name is ASCII
-name_byte_small : (b : ℕ) → is_name_byte b ≡ true → b < 128
-name_byte_small b good = grind (arith, common_steps)
-
--- and so is a byte of such bytes, and what stands past their end
-small_at : (bytes : List ℕ) → position (λ b. not (is_name_byte b)) bytes ≡ None → (j : ℕ) → get_or bytes j 0 < 128
-small_at bytes none j = elim (less_or_not j (length bytes)) [
-  | inl less ↦ name_byte_small (get_or bytes j 0) (good_at bytes none j less)
+-- a byte of a name is ASCII, and so is what stands past the end of one
+small_at : (bytes : List ℕ) → list_all is_name_byte bytes ≡ true → (j : ℕ) → get_or bytes j 0 < 128
+small_at bytes all j = elim (less_or_not j (length bytes)) [
+  | inl less ↦ name_byte_small (get_or bytes j 0) (AllPass-from_list_all is_name_byte bytes all j 0 less)
   | inr past ↦ rw (get_or-eq_default bytes 0 past) (lit< tt)
 ]
+  where
+    name_byte_small : (b : ℕ) → is_name_byte b ≡ true → b < 128
+    name_byte_small b good = grind (arith, common_steps)
 
--- so the bytes are a text
-pub text-from_search : (bytes : List ℕ) → position (λ b. not (is_name_byte b)) bytes ≡ None → IsUtf8 bytes
-text-from_search bytes none = IsUtf8-from_ascii bytes (small_at bytes none)
+-- so a name is a text
+pub text-of_name : (bytes : List ℕ) → IsTrue (is_name 512 bytes) → IsUtf8 bytes
+text-of_name bytes named =
+    let bytes_are : list_all is_name_byte bytes ≡ true = grind (arith, common_steps) in
+    IsUtf8-from_ascii bytes (small_at bytes bytes_are)

@@ -68,7 +68,7 @@ impl<'a> Lines<'a> {
     }
 }
 
-// The first line of a text that isn't empty, what stands behind it, and whether a line feed ends it.
+// The first line of a text that isn't empty, what stands after it, and whether a line feed ends it.
 fn first_line(bytes: &[u8]) -> (&[u8], &[u8], bool)
     requires { 0 < length bytes.now }
     ensures line { lines_of bytes.now ≡ record { bytes = result.0.now; ended = result.2 } ∷ lines_of result.1.now }

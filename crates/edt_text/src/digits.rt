@@ -1,8 +1,7 @@
 //! Numbers as shortest decimals, written and read.
 ghost use Rattle.std.specs.Prelude.{◌≡◌, ℕ, ◌^◌, ◌<◌, List, ◌++◌, OnOk, OnErr, decimal};
 ghost use Rattle.std.specs.Fmt.{signed_decimal};
-ghost use Rattle.edt_text.specs.Reading.{reading_of};
-ghost use Rattle.edt_text.specs.Inside.Digits.{value_within};
+ghost use Rattle.edt_text.specs.Reading.{reading_of, value_within};
 ghost use Rattle.edt_text.specs.Inside.Digits as digits;
 
 use itoa::Buffer;
@@ -34,7 +33,7 @@ pub fn read_number(word: &[u8]) -> Option<u64>
     match word {
         [] => None,
         [b'0', _, ..] => None,
-        _ => value_of(word),
+        _ => digits_within(word, u64::MAX),
     }
 }
 
@@ -43,23 +42,29 @@ pub fn reads_back()
     ensures { (n : ℕ) → n < 2 ^ 64 → (reading_of (decimal n) ≡ Some n) × ((word : List ℕ) → reading_of word ≡ Some n → word ≡ decimal n) }
 {}
 
-// The number that digits write, or `None` where a byte isn't a digit or the number isn't below 2^64.
-fn value_of(word: &[u8]) -> Option<u64>
-    ensures { result ≡ value_within word.now }
+/// The number that digits write. `None` where a byte isn't a digit or the number passes `most`; no bytes are 0.
+pub fn digits_within(word: &[u8], most: u64) -> Option<u64>
+    ensures { result ≡ value_within most word.now }
 {
     let mut value: u64 = 0;
     for byte in word {
-        value = with_digit(value, *byte)?;
+        value = with_digit(value, *byte, most)?;
     }
     Some(value)
 }
 
-// The number with one more digit, where the byte is a digit and the number stays below 2^64.
-fn with_digit(value: u64, byte: u8) -> Option<u64>
-    ensures { result ≡ digits.with_digit value byte }
+// The number with one more digit, where the byte is a digit and the number stays within its limit.
+fn with_digit(value: u64, byte: u8, most: u64) -> Option<u64>
+    ensures { result ≡ digits.with_digit most value byte }
 {
     if !byte.is_ascii_digit() {
         return None;
     }
-    value.checked_mul(10)?.checked_add(u64::from(byte - b'0'))
+    let longer = value
+        .checked_mul(10)?
+        .checked_add(u64::from(byte - b'0'))?;
+    if longer > most {
+        return None;
+    }
+    Some(longer)
 }

@@ -1,6 +1,8 @@
 //! Names of stations, phases and files.
 ghost use Rattle.std.specs.Prelude.{◌≡◌, ◌<◌, ◌≤◌, ◌↔◌, [], ℕ, Some, length, position, not, IsTrue, IfOk, IsErrOf};
+ghost use Rattle.std.specs.List.{list_all};
 ghost use Rattle.text_terms.specs.Names.{is_name, is_name_byte};
+ghost use Rattle.text_terms.specs.Names as names;
 
 use std::alloc::{AllocError, Global};
 use std::hash::{Hash, Hasher};
@@ -61,10 +63,16 @@ impl Name {
         if let Some(place) = bad_place(bytes) {
             return Err(NameFault::BadByte(place));
         }
-        match String::from_str(alloc, as_text(bytes)) {
-            Ok(text) => Ok(Name { text }),
-            Err(_) => Err(NameFault::Memory),
-        }
+        Name::of_valid(alloc, bytes).map_err(|_| NameFault::Memory)
+    }
+
+    /// The name of bytes that are one, which is refused for want of memory alone.
+    pub fn of_valid(alloc: Global, bytes: &[u8]) -> Result<Name, AllocError>
+        requires form { IsTrue (is_name 512 bytes.now) }
+        ensures name { IfOk result (λ name. name ≡ bytes.now) }
+    {
+        let text = String::from_str(alloc, as_text(bytes))?;
+        Ok(Name { text })
     }
 
     /// The bytes of the name as a text.
@@ -120,6 +128,13 @@ impl Hash for Name {
     }
 }
 
+/// Whether bytes are a name of at most so many: they are one or more, each from 33 to 126.
+pub fn is_name(bytes: &[u8], most: usize) -> bool
+    ensures { result ≡ names.is_name most bytes.now }
+{
+    !bytes.is_empty() && bytes.len() <= most && has_name_bytes(bytes)
+}
+
 /// Whether two names are equal tells whether their bytes are.
 pub fn are_same(a: &Name, b: &Name) -> bool
     ensures { IsTrue result ↔ (a.now ≡ b.now) }
@@ -131,12 +146,19 @@ pub fn are_same(a: &Name, b: &Name) -> bool
 fn bad_place(bytes: &[u8]) -> Option<usize>
     ensures { result ≡ position (λ b. not (is_name_byte b)) bytes.now }
 {
-    bytes.iter().position(|b| !(33..=126).contains(b))
+    bytes.iter().position(|b| *b < 33 || *b > 126)
 }
 
-// Bytes of names as a text.
+// Whether a name may hold each byte.
+fn has_name_bytes(bytes: &[u8]) -> bool
+    ensures { result ≡ list_all is_name_byte bytes.now }
+{
+    bytes.iter().all(|b| (33..=126).contains(b))
+}
+
+// The bytes of a name as a text.
 fn as_text(bytes: &[u8]) -> &str
-    requires { position (λ b. not (is_name_byte b)) bytes.now ≡ None }
+    requires { IsTrue (is_name 512 bytes.now) }
     ensures { result.now ≡ bytes.now }
 {
     match str::from_utf8(bytes) {

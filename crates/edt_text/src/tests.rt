@@ -59,6 +59,20 @@ fn five_bytes_part_words(rt: HostRuntime) {
 }
 
 #[test]
+fn words_have_places(rt: HostRuntime) {
+    let line = b"a bb  c d e f g h i j k l m n o p";
+    let words = PlacedWords::new(Words::new(line));
+    assert!(rt; words.has(15));
+    assert_eq!(rt; words.at(1), b"bb".as_slice());
+    assert_eq!(rt; words.at(14), b"o".as_slice());
+    let few = PlacedWords::new(Words::new(b" a "));
+    assert!(rt; few.has(1) && !few.has(2));
+    assert_eq!(rt; few.at(1), b"".as_slice());
+    let mut rest = words.after_first();
+    assert_eq!(rt; rest.next(), Some(b"bb".as_slice()));
+}
+
+#[test]
 fn names_have_limits(rt: HostRuntime) -> Result<(), Fail> {
     let long = [b'a'; 513];
     let name = Name::new(rt.alloc(), &long[..512])?;
@@ -68,6 +82,7 @@ fn names_have_limits(rt: HostRuntime) -> Result<(), Fail> {
     let other = Name::new(rt.alloc(), b"!~")?;
     assert_eq!(rt; other.as_str(), "!~");
     assert!(rt; !are_same(&name, &other));
+    assert!(rt; is_name(b"!~", 2) && !is_name(b"!~", 1) && !is_name(b"", 1) && !is_name(b" ", 1));
     assert_eq!(rt; Name::new(rt.alloc(), b"").err(), Some(NameFault::Empty));
     assert_eq!(rt; Name::new(rt.alloc(), &long).err(), Some(NameFault::Long));
     assert_eq!(rt;
@@ -99,5 +114,8 @@ fn digits_are_written_and_read(rt: HostRuntime) -> Result<(), Fail> {
     assert_eq!(rt; read_number(b"01"), None);
     assert_eq!(rt; read_number(b"+1"), None);
     assert_eq!(rt; read_number(b"1 "), None);
+    assert_eq!(rt; digits_within(b"0099", 99), Some(99));
+    assert_eq!(rt; digits_within(b"100", 99), None);
+    assert_eq!(rt; digits_within(b"9x", 99), None);
     Ok(())
 }

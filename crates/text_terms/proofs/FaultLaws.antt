@@ -27,9 +27,9 @@ first_place fault_at n p q c d first other =
     omega arith
 
 -- and have one cause
-pub first_cause : {Cause : Type 0} (fault_at : ℕ → Option Cause) (n p q : ℕ) (c d : Cause)
+pub one_cause : {Cause : Type 0} (fault_at : ℕ → Option Cause) (n p q : ℕ) (c d : Cause)
     → IsFirstFault fault_at n p c → IsFirstFault fault_at n q d → c ≡ d
-first_cause fault_at n p q c d first other =
+one_cause fault_at n p q c d first other =
     let same : p ≡ q = first_place fault_at n p q c d first other in
     let here : fault_at p ≡ Some c = first.here in
     let there : fault_at q ≡ Some d = other.here in

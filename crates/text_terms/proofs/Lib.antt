@@ -1,5 +1,8 @@
 pub mod Cases
 pub mod FaultLaws
+pub mod CauseLaws
+pub mod ListLaws
+pub mod PrefixLaws
 pub mod NumeralLaws
 pub mod RunLaws
 pub mod LineLaws

@@ -1,5 +1,15 @@
--- The first faulty item of a list of n items, and its cause; an item behind the last one, at n, is one that is missing.
-use Rattle.std.specs.Prelude.{◌≡◌, ℕ, ◌<◌, ◌≤◌, Option, Some, None}
+-- Causes, and the first faulty item of a list of n items with its cause; an item after the last one, at n, is one that is missing.
+use Rattle.std.specs.Prelude.{◌≡◌, ℕ, ◌<◌, ◌≤◌, Bool, if◌then◌else◌, List, [], ◌∷◌, Option, Some, None}
+use Rattle.std.specs.Option.{option_or}
+
+-- a cause, unless the test passes
+abbrev pub unless : {Cause : Type 0} → Bool → Cause → Option Cause
+unless test cause = if test then None else Some cause
+
+-- the first of several causes that is there
+abbrev pub first_cause : {Cause : Type 0} → List (Option Cause) → Option Cause
+first_cause [] = None
+first_cause (cause ∷ causes) = option_or cause (first_cause causes)
 
 -- no item before the place is faulty
 abbrev pub NoFaultBelow : {Cause : Type 0} → (ℕ → Option Cause) → ℕ → Type 0

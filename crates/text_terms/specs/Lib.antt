@@ -3,3 +3,4 @@ pub mod Words
 pub mod Numerals
 pub mod Names
 pub mod Faults
+pub mod Prefixes

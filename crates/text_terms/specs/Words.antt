@@ -1,5 +1,5 @@
 -- The words of a line and of a file.
-use Rattle.std.specs.Prelude.{ℕ, Bool, ◌==◌, ◌||◌, not, List, length, filter}
+use Rattle.std.specs.Prelude.{ℕ, Bool, ◌==◌, ◌||◌, not, List, [], length, filter, get_or}
 use Rattle.std.specs.List.{slice_split, flat_map}
 use Rattle.text_terms.specs.Lines.{LineText, is_line_feed, lines_of}
 
@@ -26,3 +26,7 @@ words_of line = runs is_blank line
 -- the words of all lines of a file, in order
 abbrev pub file_words : List ℕ → List (List ℕ)
 file_words bytes = flat_map (λ (line : LineText). words_of line.bytes) (lines_of bytes)
+
+-- the word at a place, counted from 0, or no bytes where there is no such word
+abbrev pub word_at : ℕ → List (List ℕ) → List ℕ
+word_at k words = get_or words k []
