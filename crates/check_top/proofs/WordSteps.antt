@@ -4,7 +4,8 @@ use Rattle.std.specs.Prelude.{◌&&◌, MatchOption, unwrap_or}
 use Rattle.edt_text.specs.Reading.{reading_of}
 use Rattle.cover_certificate.specs.LineFaults.{number_of}
 use Rattle.check_top.specs.declared.report.fault.ReportCause.TheVariants.{Form, Number}
-use Rattle.check_top.specs.ReportLines.{each_fits, has_form, is_number, unless, words_cause}
+use Rattle.text_terms.specs.Faults.{unless}
+use Rattle.check_top.specs.ReportLines.{each_fits, has_form, is_number, words_cause}
 
 -- forms as bytes
 abbrev pub bytes_of : List (Bor (List ℕ)) → List (List ℕ)

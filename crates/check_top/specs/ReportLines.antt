@@ -2,6 +2,7 @@
 use Rattle.std.specs.Prelude.{ℕ, ◌==◌, ◌&&◌, ◌||◌, ◌^◌, Bool, true, false, not, nat_lt, if◌then◌else◌, List, [], ◌∷◌, length, take, get_or, Option, Some, None, codes}
 use Rattle.std.specs.Option.{option_or}
 use Rattle.std.specs.Str.{bytes_eq}
+use Rattle.text_terms.specs.Faults.{unless}
 use Rattle.text_terms.specs.Lines.{LineText}
 use Rattle.edt_text.specs.Reading.{reading_of}
 use Rattle.cover_certificate.specs.LineFaults.{number_of}
@@ -36,10 +37,6 @@ each_fits fits [] [] = true
 each_fits fits [] (word ∷ words) = false
 each_fits fits (form ∷ forms) [] = false
 each_fits fits (form ∷ forms) (word ∷ words) = fits form word && each_fits fits forms words
-
--- a cause, unless the test passes
-abbrev pub unless : Bool → ReportCause → Option ReportCause
-unless test cause = if test then None else Some cause
 
 -- the first cause of words
 unfoldable pub words_cause : List (List ℕ) → List (List ℕ) → Option ReportCause

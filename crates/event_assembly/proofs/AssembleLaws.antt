@@ -15,14 +15,16 @@ use Rattle.event_assembly.specs.declared.assembly.Assembly.{Assembly}
 use Rattle.event_assembly.specs.declared.faults.AssembleFault.{AssembleFault}
 use Rattle.event_assembly.specs.declared.faults.AssembleFault.TheVariants.{Cells}
 use Rattle.event_assembly.specs.Answers.{IsTold}
-use Rattle.event_assembly.specs.Assembling.{first_fault, keys_at, rows_of, assemble_fault, roots_for}
+use Rattle.text_terms.specs.Faults.{first_cause}
+use Rattle.event_assembly.specs.Assembling.{keys_at, rows_of, assemble_fault, roots_for}
 use Rattle.event_assembly.specs.AssemblyValues.{event_value, event_of, events_of, values_by, unless_fault, assembly_of, assembly_value}
 use Rattle.event_assembly.specs.Headers.{header_of, header_fault, place_of_file, places_of}
 use Rattle.event_assembly.specs.Names.{header_name}
 use Rattle.event_assembly.specs.Inside.Planning.{place_of_header, places_of_headers}
 use Rattle.event_assembly.specs.Inside.Reads.{IsRefusal, header_in}
 use Rattle.event_assembly.specs.Rows.{cells_fault, row_keys, row_fault, row_times}
-use Rattle.event_assembly.proofs.FaultLaws.{first_fault-append, first_fault-before, refusal_by, told_weaker}
+use Rattle.text_terms.proofs.CauseLaws.{first_of_second, first_of_first}
+use Rattle.event_assembly.proofs.FaultLaws.{refusal_by, told_weaker}
 
 -- the place of a header is that of its file
 place_is : (file : Option (List ℕ)) → place_of_header (option_map header_of file) ≡ place_of_file file
@@ -45,7 +47,7 @@ told_refusal files control events fault refused =
 
 -- a refused header refuses the events
 pub refused_headers : (told : Option Files) (control : ControlValues) (events : List (List Pick)) (keys : List GridKey) (fault : AssembleFault)
-    → keys ≡ wanted_keys control events → IfSome told (λ files. IsRefusal (first_fault (map (header_fault files control) keys)) fault)
+    → keys ≡ wanted_keys control events → IfSome told (λ files. IsRefusal (first_cause (map (header_fault files control) keys)) fault)
     → IfSome told (λ files. IsRefusal (assemble_fault files control events) fault)
 unfolding assemble_fault
 refused_headers None control events keys fault wanted refused = tt
@@ -53,18 +55,18 @@ refused_headers (Some files) control events keys fault wanted refused =
     let first : List GridKey → List (Option AssembleFault) = λ ks. map (header_fault files control) ks in
     let rest : List (Option AssembleFault) =
     cells_fault control (length (rows_of files control events)) ∷ map (row_fault files control) (keys_at (wanted_keys control events) (rows_of files control events)) in
-    refusal_by (first_fault (first (wanted_keys control events))) (first_fault (first (wanted_keys control events) ++ rest)) fault
-    (λ f some. first_fault-before (first (wanted_keys control events)) rest f some)
-    (subst (λ (ks : List GridKey). IsRefusal (first_fault (first ks)) fault) wanted refused)
+    refusal_by (first_cause (first (wanted_keys control events))) (first_cause (first (wanted_keys control events) ++ rest)) fault
+    (λ f some. first_of_first (first (wanted_keys control events)) rest f some)
+    (subst (λ (ks : List GridKey). IsRefusal (first_cause (first ks)) fault) wanted refused)
 
 -- what is known once the headers were read and the rows are settled
 pub record IsSettled (files : Files) (control : ControlValues) (events : List (List Pick)) (keys : List GridKey) (rows : List ℕ) : Type 0 where
   pub rows_are : rows_of files control events ≡ rows
-  pub fault_is : assemble_fault files control events ≡ first_fault (cells_fault control (length rows) ∷ map (row_fault files control) (keys_at keys rows))
+  pub fault_is : assemble_fault files control events ≡ first_cause (cells_fault control (length rows) ∷ map (row_fault files control) (keys_at keys rows))
 
 pub settled : (told : Option Files) (control : ControlValues) (events : List (List Pick)) (keys : List GridKey) (headers : List (Option Header)) (rows : List ℕ)
     → keys ≡ wanted_keys control events
-    → IfSome told (λ files. (first_fault (map (header_fault files control) keys) ≡ None) × (headers ≡ map (header_in files control) keys))
+    → IfSome told (λ files. (first_cause (map (header_fault files control) keys) ≡ None) × (headers ≡ map (header_in files control) keys))
     → rows ≡ row_keys control keys (places_of_headers headers) events → IfSome told (λ files. IsSettled files control events keys rows)
 unfolding assemble_fault rows_of
 settled None control events keys headers rows wanted read numbered = tt
@@ -77,9 +79,9 @@ settled (Some files) control events keys headers rows wanted (none, found) numbe
     ∙ ap (λ (ks : List GridKey). row_keys control ks (places_of files control ks) events) wanted in
     record {
       rows_are = sym rows_are;
-      fault_is = ap (λ (ks : List GridKey). first_fault (first ks ++ rest ks (rows_of files control events))) (sym wanted)
-          ∙ ap (λ (rs : List ℕ). first_fault (first keys ++ rest keys rs)) (sym rows_are)
-          ∙ first_fault-append (first keys) (rest keys rows) none;
+      fault_is = ap (λ (ks : List GridKey). first_cause (first ks ++ rest ks (rows_of files control events))) (sym wanted)
+          ∙ ap (λ (rs : List ℕ). first_cause (first keys ++ rest keys rs)) (sym rows_are)
+          ∙ first_of_second (first keys) (rest keys rows) none;
     }
 
 -- too many times refuse the events
@@ -94,7 +96,7 @@ refused_cells (Some files) control events keys rows past known test is =
 -- the fault of the events is that of their rows
 rows_fault : (files : Files) (control : ControlValues) (events : List (List Pick)) (keys : List GridKey) (rows : List ℕ) (past : Bool)
     → IsSettled files control events keys rows → past ≡ nat_lt 20000000 (length rows * node_count control.frame.grid) → past ≡ false
-    → assemble_fault files control events ≡ first_fault (map (row_fault files control) (keys_at keys rows))
+    → assemble_fault files control events ≡ first_cause (map (row_fault files control) (keys_at keys rows))
 rows_fault files control events keys rows past known test is =
     let within : nat_lt 20000000 (length rows * node_count control.frame.grid) ≡ false = sym test ∙ is in
     known.fault_is ∙ rw within refl
@@ -103,11 +105,11 @@ rows_fault files control events keys rows past known test is =
 pub refused_rows : (told now : Option Files) (control : ControlValues) (events : List (List Pick)) (keys : List GridKey) (rows : List ℕ) (past : Bool)
     (fault : AssembleFault) → now ≡ told → IfSome told (λ files. IsSettled files control events keys rows)
     → past ≡ nat_lt 20000000 (length rows * node_count control.frame.grid) → past ≡ false
-    → IfSome now (λ files. IsRefusal (first_fault (map (row_fault files control) (keys_at keys rows))) fault)
+    → IfSome now (λ files. IsRefusal (first_cause (map (row_fault files control) (keys_at keys rows))) fault)
     → IfSome told (λ files. IsRefusal (assemble_fault files control events) fault)
 refused_rows None now control events keys rows past fault same known test is refused = tt
 refused_rows (Some files) now control events keys rows past fault same known test is refused =
-    let here : IsRefusal (first_fault (map (row_fault files control) (keys_at keys rows))) fault = rw same at refused in
+    let here : IsRefusal (first_cause (map (row_fault files control) (keys_at keys rows))) fault = rw same at refused in
     rw (rows_fault files control events keys rows past known test is) here
 
 -- the events that are made by the headers are those by the files
@@ -123,17 +125,17 @@ made_events files control events keys places rows wanted at numbered =
 -- the events are assembled
 pub assembled : (told now : Option Files) (control : ControlValues) (events : List (List Pick)) (keys : List GridKey) (headers : List (Option Header)) (rows : List ℕ)
     (past : Bool) (assembly : Assembly) → now ≡ told → keys ≡ wanted_keys control events
-    → IfSome told (λ files. (first_fault (map (header_fault files control) keys) ≡ None) × (headers ≡ map (header_in files control) keys))
+    → IfSome told (λ files. (first_cause (map (header_fault files control) keys) ≡ None) × (headers ≡ map (header_in files control) keys))
     → IfSome told (λ files. IsSettled files control events keys rows)
     → past ≡ nat_lt 20000000 (length rows * node_count control.frame.grid) → past ≡ false
-    → IfSome now (λ files. (first_fault (map (row_fault files control) (keys_at keys rows)) ≡ None)
+    → IfSome now (λ files. (first_cause (map (row_fault files control) (keys_at keys rows)) ≡ None)
     × (assembly.field ≡ record { grid = control.frame.grid; roots = roots_for control; rows = map (row_times files control) (keys_at keys rows) }))
     → assembly.frame ≡ control.frame → map event_value assembly.events.items ≡ map (event_of control keys (places_of_headers headers) rows) events
     → IfSome told (λ files. IsTold (assembly_of files control events) (Ok assembly))
 unfolding assembly_of
 assembled None now control events keys headers rows past assembly same wanted read known test is made frame ready = tt
 assembled (Some files) now control events keys headers rows past assembly same wanted read known test is made frame ready =
-    let here : (first_fault (map (row_fault files control) (keys_at keys rows)) ≡ None)
+    let here : (first_cause (map (row_fault files control) (keys_at keys rows)) ≡ None)
     × (assembly.field ≡ record { grid = control.frame.grid; roots = roots_for control; rows = map (row_times files control) (keys_at keys rows) }) = rw same at made in
     let times : List GridKey → List ℕ → FieldTimes = λ ks rs. record { grid = control.frame.grid; roots = roots_for control; rows = map (row_times files control) (keys_at ks rs) } in
     let places : places_of_headers headers ≡ places_of files control keys = ap places_of_headers read.1 ∙ places_are files control keys in

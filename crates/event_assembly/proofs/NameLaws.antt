@@ -39,15 +39,6 @@ text_of most text name =
     let first = and_parts (nat_le 1 (length text)) (nat_le (length text) most) last.0 in
     record { some = leb-true 1 (length text) first.0; few = leb-true (length text) most first.1; bytes = last.1 }
 
--- no byte of a name is one that no name may hold
-pub no_bad_byte : (text : List ℕ) (k : ℕ) → IsTrue (is_name 512 text) → position (λ b. not (is_name_byte b)) text ≡ Some k → ⊥
-no_bad_byte text k name found =
-    let at = position-Some (λ b. not (is_name_byte b)) text k 0 found in
-    let bad : is_name_byte (get_or text k 0) ≡ false = not-true (is_name_byte (get_or text k 0)) at.1 in
-    let none : list_all is_name_byte text ≡ false = list_all_at is_name_byte text k 0 at.0 bad in
-    let all : list_all is_name_byte text ≡ true = (text_of 512 text name).bytes in
-    cc
-
 -- two texts are one
 both : (most more : ℕ) (front back : List ℕ) → IsText most front → list_all is_name_byte back ≡ true → length back ≤ more → IsText (most + more) (front ++ back)
 both most more front back first bytes few =

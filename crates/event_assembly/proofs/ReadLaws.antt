@@ -6,13 +6,13 @@ use Rattle.edt_outside.specs.Shelves.{Files}
 use Rattle.event_assembly.specs.declared.faults.AssembleFault.{AssembleFault}
 use Rattle.event_assembly.specs.declared.faults.AssembleFault.TheVariants.{Memory}
 use Rattle.event_assembly.specs.Inside.Reads.{IsRefusal}
-use Rattle.event_assembly.specs.Assembling.{first_fault}
+use Rattle.text_terms.specs.Faults.{first_cause}
 use Rattle.event_assembly.proofs.FaultLaws.{none_more, refusal_here}
 use Rattle.event_assembly.proofs.ListLaws.{map_more, take_whole}
 
 -- none of the first keys has a fault, and these items were made of them
 pub record AreMade {A B : Type 0} (fault : A → Option AssembleFault) (made : A → B) (i : ℕ) (keys : List A) (list : List B) : Type 0 where
-  pub none : first_fault (map fault (take i keys)) ≡ None
+  pub none : first_cause (map fault (take i keys)) ≡ None
   pub items : list ≡ map made (take i keys)
 
 -- the answer for one key
@@ -42,7 +42,7 @@ AreMade-more (Some files) now fault made i keys key items item same here before 
 pub AreMade-refused : {A B : Type 0} (told now : Option Files) (fault : Files → A → Option AssembleFault) (made : Files → A → B) (i : ℕ) (keys : List A) (key : A)
     (items : List B) (refusal : AssembleFault) → now ≡ told → slice_get keys i ≡ Some key
     → IfSome told (λ files. AreMade (fault files) (made files) i keys items)
-    → IfSome now (λ files. IsRefusal (fault files key) refusal) → IfSome told (λ files. IsRefusal (first_fault (map (fault files) keys)) refusal)
+    → IfSome now (λ files. IsRefusal (fault files key) refusal) → IfSome told (λ files. IsRefusal (first_cause (map (fault files) keys)) refusal)
 AreMade-refused None now fault made i keys key items refusal same here before one = tt
 AreMade-refused (Some files) now fault made i keys key items refusal same here before one =
     let more : IsRefusal (fault files key) refusal = rw same at one in
@@ -51,7 +51,7 @@ AreMade-refused (Some files) now fault made i keys key items refusal same here b
 -- all items were made
 pub AreMade-all : {A B : Type 0} (told : Option Files) (fault : Files → A → Option AssembleFault) (made : Files → A → B) (i : ℕ) (keys : List A) (items : List B)
     → length keys ≤ i → IfSome told (λ files. AreMade (fault files) (made files) i keys items)
-    → IfSome told (λ files. (first_fault (map (fault files) keys) ≡ None) × (items ≡ map (made files) keys))
+    → IfSome told (λ files. (first_cause (map (fault files) keys) ≡ None) × (items ≡ map (made files) keys))
 AreMade-all None fault made i keys items all before = tt
 AreMade-all (Some files) fault made i keys items all before =
     let whole : take i keys ≡ keys = take_whole i keys all in

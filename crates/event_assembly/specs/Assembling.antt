@@ -1,5 +1,6 @@
 -- The rows of events, their field, and the first fault of their assembly.
 use Rattle.std.specs.Prelude.{ℕ, Bool, List, [], ◌∷◌, ◌++◌, length, map, flat_map, Option, Some, None, slice_get}
+use Rattle.text_terms.specs.Faults.{first_cause}
 use Rattle.edt_outside.specs.Shelves.{Files}
 use Rattle.node_boxes.specs.declared.node_box.NodeBox.{NodeBox}
 use Rattle.node_boxes.specs.Roots.{roots_of}
@@ -32,18 +33,12 @@ unfoldable pub rows_of : Files → ControlValues → List (List Pick) → List �
 rows_of files control events =
     let keys : List GridKey = wanted_keys control events in row_keys control keys (places_of files control keys) events
 
--- the first fault of a list
-abbrev pub first_fault : List (Option AssembleFault) → Option AssembleFault
-first_fault [] = None
-first_fault (None ∷ faults) = first_fault faults
-first_fault (Some fault ∷ faults) = Some fault
-
 -- the first fault in the order of work: the headers of the wanted keys, too many times, and the rows
 unfoldable pub assemble_fault : Files → ControlValues → List (List Pick) → Option AssembleFault
 assemble_fault files control events =
     let keys : List GridKey = wanted_keys control events in
     let rows : List ℕ = rows_of files control events in
-    first_fault (
+    first_cause (
     map (header_fault files control) keys
     ++ cells_fault control (length rows)
     ∷ map (row_fault files control) (keys_at keys rows))

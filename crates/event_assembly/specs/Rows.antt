@@ -1,7 +1,7 @@
 -- The rows of times: those of the keys of the used picks of ready events.
 use Rattle.std.specs.Prelude.{ℕ, ◌+◌, ◌*◌, ◌/◌, ◌==◌, Bool, ◌&&◌, nat_lt, if◌then◌else◌, List, [], length, map, filter, Option, Some, None, unwrap_or, unsigned_abs}
 use Rattle.std.specs.List.{list_any, position, range_with_len}
-use Rattle.std.specs.Option.{option_map}
+use Rattle.std.specs.Option.{option_map, option_or}
 use Rattle.grid_header.specs.declared.header.Header.{Header}
 use Rattle.node_boxes.specs.Grid.{node_count}
 use Rattle.edt_outside.specs.Shelves.{Files}
@@ -63,17 +63,12 @@ abbrev pub body_search_times : ControlValues → Header → List ℕ → List �
 body_search_times control header body =
     search_times header control.frame (body_times (byte_order control) body (node_count (time_grid_size header)))
 
--- the first fault that is there, or else the second one
-abbrev pub or_else : Option AssembleFault → Option AssembleFault → Option AssembleFault
-or_else None other = other
-or_else (Some fault) other = Some fault
-
 -- the fault of a body of this name: its own, then the first axis on which the search grid isn't aligned with its grid, then the first
 -- search node whose converted time passes 2,000,000,000
 unfoldable pub fault_of_body : ControlValues → GridKey → Header → List ℕ → List ℕ → Option AssembleFault
 fault_of_body control key header name body =
-    or_else (option_map (Body name) (body_fault (byte_order control) body (node_count (time_grid_size header))))
-    (or_else (option_map (Align name) (first_unaligned_axis header control.frame))
+    option_or (option_map (Body name) (body_fault (byte_order control) body (node_count (time_grid_size header))))
+    (option_or (option_map (Align name) (first_unaligned_axis header control.frame))
     (option_map (λ (k : ℕ). Body name (TimeLimit k)) (position is_over (times_for control key (body_search_times control header body)))))
 
 -- a body that isn't there is absent

@@ -24,7 +24,7 @@ pub(crate) fn header_name(
     let phase = key.grid_phase.as_str();
     let station = key.station.as_str();
     let text = format!(in alloc; "{root}.{phase}.{station}.time.hdr")?;
-    name_of(alloc, text.as_bytes())
+    Name::of_valid(alloc, text.as_bytes())
 }
 
 /// The name of the body of a key. Want of memory is the only refusal.
@@ -37,19 +37,5 @@ pub(crate) fn body_name(alloc: Global, control: &Control, key: &GridKey) -> Resu
     let phase = key.grid_phase.as_str();
     let station = key.station.as_str();
     let text = format!(in alloc; "{root}.{phase}.{station}.time.usec")?;
-    name_of(alloc, text.as_bytes())
-}
-
-// The name of bytes that are one, which is refused for want of memory alone.
-fn name_of(alloc: Global, bytes: &[u8]) -> Result<Name, AllocError>
-    requires { IsTrue (is_name 512 bytes.now) }
-    ensures { IfOk result (λ name. name ≡ bytes.now) }
-{
-    match Name::new(alloc, bytes) {
-        Ok(name) => Ok(name),
-        Err(NameFault::Memory) => Err(AllocError),
-        Err(NameFault::Empty) => unreachable!(),
-        Err(NameFault::Long) => unreachable!(),
-        Err(NameFault::BadByte(_)) => unreachable!(),
-    }
+    Name::of_valid(alloc, text.as_bytes())
 }

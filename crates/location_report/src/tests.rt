@@ -275,6 +275,11 @@ fn other_outcomes_have_no_residuals(rt: HostRuntime) -> Result<(), Fail> {
             "LANES 3 EVENTS 4 LOST 1\nCERT BUDGET\nEND\n",
         ),
         (Found::NearLimit, None, "CERT NEARLIMIT\nEND\n"),
+        (
+            Found::NearLimit,
+            Some(lanes),
+            "LANES 3 EVENTS 4 LOST 1\nCERT NEARLIMIT\nEND\n",
+        ),
     ];
     for (found, lanes, lines) in rows {
         let text = block_with(alloc, 1, &assembly, &found, lanes)?;

@@ -14,12 +14,13 @@ use Rattle.control_reader.proofs.ValueSteps.{says_values}
 use Rattle.run_input.specs.declared.refusals.Refusal.{Refusal}
 use Rattle.run_input.specs.declared.refusals.Refusal.TheVariants.{Control as control_is, ControlTooLong, Memory as memory_is}
 use Rattle.run_input.specs.FilesUnder.{bytes_under, include_names, lines_under}
-use Rattle.run_input.specs.FirstRefusals.{first_refusal, file_refusal, include_fault, include_refusal, included_refusals, control_fault, lines_refusal, control_refusal}
+use Rattle.text_terms.specs.Faults.{first_cause}
+use Rattle.run_input.specs.FirstRefusals.{file_refusal, include_fault, include_refusal, included_refusals, control_fault, lines_refusal, control_refusal}
 use Rattle.run_input.specs.Refusals.{is_untold}
 use Rattle.run_input.specs.Inside.Stages.{IsControlUnder, IsFile}
 use Rattle.run_input.proofs.FaultyLaws.{faultless, faulty}
 use Rattle.run_input.proofs.IncludedSteps.{AreRead}
-use Rattle.run_input.proofs.RefusalLaws.{first_of_second, first_of_first, first_here, first_after}
+use Rattle.text_terms.proofs.CauseLaws.{first_of_second, first_of_first, first_here, first_after}
 
 -- a main file that was read whole
 abbrev pub IsMain : Files → List ℕ → Vec ℕ → Type 0
@@ -36,12 +37,12 @@ main_stops (Some files) name refusal told = λ free. first_here _ _ refusal (tol
 -- what is left after the main file
 after_main : (files : Files) (name : List ℕ) (main : Vec ℕ) → IsMain files name main
     → control_refusal files name
-    ≡ first_refusal (include_refusal main.items ∷ included_refusals files (include_names main.items) ++ lines_refusal (lines_under files main.items) ∷ [])
+    ≡ first_cause (include_refusal main.items ∷ included_refusals files (include_names main.items) ++ lines_refusal (lines_under files main.items) ∷ [])
 unfolding control_refusal
 after_main files name main is =
     let under : bytes_under files name ≡ main.items = ap (λ o. unwrap_or o []) is.1.0 in
     first_after _ _ is.0
-    ∙ ap (λ m. first_refusal (include_refusal m ∷ included_refusals files (include_names m) ++ lines_refusal (lines_under files m) ∷ [])) under
+    ∙ ap (λ m. first_cause (include_refusal m ∷ included_refusals files (include_names m) ++ lines_refusal (lines_under files m) ∷ [])) under
 
 -- a line that includes a file has a fault
 include_found : (main : List ℕ) (fault : ControlFault) → IsIncludeFault main fault → include_refusal main ≡ Some (control_is fault)
@@ -58,18 +59,18 @@ include_stops (Some files) name main fault told is =
 
 -- no line that includes a file has a fault
 after_names : (files : Files) (name : List ℕ) (main : Vec ℕ) (names : List (List ℕ)) → IsMain files name main → AreIncludes main.items names
-    → control_refusal files name ≡ first_refusal (included_refusals files names ++ lines_refusal (lines_under files main.items) ∷ [])
+    → control_refusal files name ≡ first_cause (included_refusals files names ++ lines_refusal (lines_under files main.items) ∷ [])
 after_names files name main names is are =
     let none : include_refusal main.items ≡ None =
     ap (option_map include_fault) (faultless (name_fault_at (file_lines 0 main.items)) (length (file_lines 0 main.items)) are.faultless) in
     after_main files name main is
     ∙ (first_after _ _ none
-    ∙ ap (λ ns. first_refusal (included_refusals files ns ++ lines_refusal (lines_under files main.items) ∷ [])) (sym are.listed))
+    ∙ ap (λ ns. first_cause (included_refusals files ns ++ lines_refusal (lines_under files main.items) ∷ [])) (sym are.listed))
 
 -- an included file isn't there, or has too many bytes
 pub included_stops : (F : Option Files) (name : List ℕ) (main : Vec ℕ) (names : List (List ℕ)) (refusal : Refusal)
     → IfSome F (λ files. IsMain files name main) → AreIncludes main.items names
-    → IfSome F (λ files. is_untold refusal ≡ false → first_refusal (included_refusals files names) ≡ Some refusal)
+    → IfSome F (λ files. is_untold refusal ≡ false → first_cause (included_refusals files names) ≡ Some refusal)
     → IfSome F (λ files. is_untold refusal ≡ false → control_refusal files name ≡ Some refusal)
 included_stops None name main names refusal told are stops = tt
 included_stops (Some files) name main names refusal told are stops =
@@ -77,11 +78,11 @@ included_stops (Some files) name main names refusal told are stops =
 
 -- all files were read: what is left is that of their lines
 after_files : (files : Files) (name : List ℕ) (main : Vec ℕ) (names contents : List (List ℕ)) → IsMain files name main → AreIncludes main.items names
-    → AreRead files names contents → control_refusal files name ≡ first_refusal (lines_refusal (control_lines main.items contents) ∷ [])
+    → AreRead files names contents → control_refusal files name ≡ first_cause (lines_refusal (control_lines main.items contents) ∷ [])
 after_files files name main names contents is are read =
     after_names files name main names is are
     ∙ (first_of_second (included_refusals files names) _ read.0
-    ∙ ap (λ cs. first_refusal (lines_refusal (control_lines main.items cs) ∷ [])) (ap (map (bytes_under files)) (sym are.listed) ∙ sym read.1))
+    ∙ ap (λ cs. first_cause (lines_refusal (control_lines main.items cs) ∷ [])) (ap (map (bytes_under files)) (sym are.listed) ∙ sym read.1))
 
 -- the control file has a fault
 control_found : (lines : List ControlLine) (fault : ControlFault) (place : ℕ) → (fault.file, fault.line) ≡ line_place (slice_get lines place)

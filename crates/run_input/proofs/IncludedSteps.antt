@@ -7,15 +7,16 @@ use Rattle.edt_outside.specs.Shelves.{Files}
 use Rattle.run_input.specs.declared.refusals.Refusal.{Refusal}
 use Rattle.run_input.specs.declared.refusals.Refusal.TheVariants.{ControlTooLong}
 use Rattle.run_input.specs.FilesUnder.{bytes_under}
-use Rattle.run_input.specs.FirstRefusals.{first_refusal, file_refusal, included_refusal, included_refusals}
+use Rattle.text_terms.specs.Faults.{first_cause}
+use Rattle.run_input.specs.FirstRefusals.{file_refusal, included_refusal, included_refusals}
 use Rattle.run_input.specs.Refusals.{is_untold}
 use Rattle.run_input.specs.Inside.Stages.{IsFile}
 use Rattle.run_input.proofs.NumberedLaws.{numbered_at, numbered_upto}
-use Rattle.run_input.proofs.RefusalLaws.{first_of_second, first_here, first_after}
+use Rattle.text_terms.proofs.CauseLaws.{first_of_second, first_here, first_after}
 
 -- what has been read of the files so far
 abbrev pub AreRead : Files → List (List ℕ) → List (List ℕ) → Type 0
-AreRead files names contents = (first_refusal (included_refusals files names) ≡ None) × (contents ≡ map (bytes_under files) names)
+AreRead files names contents = (first_cause (included_refusals files names) ≡ None) × (contents ≡ map (bytes_under files) names)
 
 -- one more file was read
 reads_here : (files : Files) (names contents : List (List ℕ)) (i : ℕ) (bytes : Vec ℕ) (d : List ℕ) → i < length names
@@ -26,7 +27,7 @@ reads_here : (files : Files) (names contents : List (List ℕ)) (i : ℕ) (bytes
 reads_here files names contents i bytes d within before passed told =
     let name : List ℕ = get_or names i d in
     let content : bytes.items ≡ bytes_under files name = sym (ap (λ o. unwrap_or o []) told) in (
-      ap first_refusal (numbered_upto (included_refusal files) names i d within)
+      ap first_cause (numbered_upto (included_refusal files) names i d within)
           ∙ (first_of_second (included_refusals files (take i names)) (included_refusal files (i + 1, name) ∷ []) before.0
           ∙ first_after (included_refusal files (i + 1, name)) [] passed),
       ap (λ cs. cs ++ bytes.items ∷ []) before.1
@@ -55,22 +56,22 @@ reads_one F G names contents i number name bytes d same within is at before told
 stops_here : (files : Files) (names contents : List (List ℕ)) (i : ℕ) (d : List ℕ) (refusal : Refusal) → i < length names
     → AreRead files (take i names) contents
     → file_refusal (get_or names i d) 1048576 (ControlTooLong (i + 1)) (files (get_or names i d)) ≡ Some refusal
-    → first_refusal (included_refusals files names) ≡ Some refusal
+    → first_cause (included_refusals files names) ≡ Some refusal
 stops_here files names contents i d refusal within before told =
-    ap first_refusal (numbered_at (included_refusal files) names i d within)
+    ap first_cause (numbered_at (included_refusal files) names i d within)
     ∙ (first_of_second (included_refusals files (take i names)) _ before.0 ∙ first_here _ _ refusal told)
 
 pub reads_stop : (F G : Option Files) (names contents : List (List ℕ)) (i number : ℕ) (name d : List ℕ) (refusal : Refusal) → G ≡ F → i < length names
     → name ≡ get_or names i d → number ≡ i + 1
     → IfSome F (λ files. AreRead files (take i names) contents)
     → IfSome G (λ files. is_untold refusal ≡ false → file_refusal name 1048576 (ControlTooLong number) (files name) ≡ Some refusal)
-    → IfSome F (λ files. is_untold refusal ≡ false → first_refusal (included_refusals files names) ≡ Some refusal)
+    → IfSome F (λ files. is_untold refusal ≡ false → first_cause (included_refusals files names) ≡ Some refusal)
 reads_stop F G names contents i number name d refusal same within is at before told =
     stop F before (rw (same, is, at) at told)
   where
     stop : (F : Option Files) → IfSome F (λ files. AreRead files (take i names) contents)
         → IfSome F (λ files. is_untold refusal ≡ false → file_refusal (get_or names i d) 1048576 (ControlTooLong (i + 1)) (files (get_or names i d)) ≡ Some refusal)
-        → IfSome F (λ files. is_untold refusal ≡ false → first_refusal (included_refusals files names) ≡ Some refusal)
+        → IfSome F (λ files. is_untold refusal ≡ false → first_cause (included_refusals files names) ≡ Some refusal)
     stop None before told = tt
     stop (Some files) before told = λ free. stops_here files names contents i d refusal within before (told free)
 

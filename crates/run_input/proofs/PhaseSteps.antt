@@ -12,11 +12,12 @@ use Rattle.phase_reader.specs.PhaseFile.{IsReading, IsPhaseFault, fault_at}
 use Rattle.run_input.specs.declared.refusals.Refusal.{Refusal}
 use Rattle.run_input.specs.declared.refusals.Refusal.TheVariants.{Phases as phases_is, PhasesTooLong, Memory as memory_is}
 use Rattle.run_input.specs.FilesUnder.{bytes_under}
-use Rattle.run_input.specs.FirstRefusals.{first_refusal, file_refusal, phase_fault, picks_refusal, phases_refusal}
+use Rattle.text_terms.specs.Faults.{first_cause}
+use Rattle.run_input.specs.FirstRefusals.{file_refusal, phase_fault, picks_refusal, phases_refusal}
 use Rattle.run_input.specs.Refusals.{is_untold}
 use Rattle.run_input.specs.Inside.Stages.{ArePhasesUnder, IsFile}
 use Rattle.run_input.proofs.FaultyLaws.{faultless, faulty}
-use Rattle.run_input.proofs.RefusalLaws.{first_here, first_after}
+use Rattle.text_terms.proofs.CauseLaws.{first_here, first_after}
 
 -- a phase file that was read whole
 abbrev pub IsPhaseBytes : Files → List ℕ → Vec ℕ → Type 0
@@ -32,11 +33,11 @@ phases_stop (Some files) name refusal told = λ free. first_here _ _ refusal (to
 
 -- what is left after the file
 after_file : (files : Files) (name : List ℕ) (bytes : Vec ℕ) → IsPhaseBytes files name bytes
-    → phases_refusal files name ≡ first_refusal (picks_refusal (numbered_lines bytes.items) ∷ [])
+    → phases_refusal files name ≡ first_cause (picks_refusal (numbered_lines bytes.items) ∷ [])
 unfolding phases_refusal
 after_file files name bytes is =
     let under : bytes_under files name ≡ bytes.items = ap (λ o. unwrap_or o []) is.1.0 in
-    first_after _ _ is.0 ∙ ap (λ b. first_refusal (picks_refusal (numbered_lines b) ∷ [])) under
+    first_after _ _ is.0 ∙ ap (λ b. first_cause (picks_refusal (numbered_lines b) ∷ [])) under
 
 -- it has a fault
 pub phases_faulty : (F : Option Files) (name : List ℕ) (bytes : Vec ℕ) (fault : PhaseFault)

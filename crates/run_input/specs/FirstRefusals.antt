@@ -2,6 +2,7 @@
 use Rattle.std.specs.Prelude.{ℕ, ◌+◌, ◌++◌, nat_lt, if◌then◌else◌, is_some, List, [], ◌∷◌, length, map, Option, Some, None, slice_get}
 use Rattle.std.specs.List.{enumerate_from, find, range_with_len}
 use Rattle.std.specs.Option.{option_map, option_and_then}
+use Rattle.text_terms.specs.Faults.{first_cause}
 use Rattle.edt_outside.specs.Shelves.{Files}
 use Rattle.control_reader.specs.declared.fault.ControlCause.{ControlCause}
 use Rattle.control_reader.specs.ControlFile.{fault_at as control_fault_at, line_place}
@@ -13,12 +14,6 @@ use Rattle.phase_reader.specs.PhaseFile.{fault_at as phase_fault_at}
 use Rattle.run_input.specs.declared.refusals.Refusal.{Refusal}
 use Rattle.run_input.specs.FilesUnder.{bytes_under, include_names, lines_under}
 use Rattle.run_input.specs.declared.refusals.Refusal.TheVariants.{Control, ControlTooLong, Phases, PhasesTooLong, Absent}
-
--- the first refusal of a list
-abbrev pub first_refusal : List (Option Refusal) → Option Refusal
-first_refusal [] = None
-first_refusal (None ∷ refusals) = first_refusal refusals
-first_refusal (Some refusal ∷ refusals) = Some refusal
 
 -- a file that isn't there is absent, and one of more bytes than its limit is refused so
 abbrev pub file_refusal : List ℕ → ℕ → Refusal → Option (List ℕ) → Option Refusal
@@ -63,7 +58,7 @@ lines_refusal lines =
 unfoldable pub control_refusal : Files → List ℕ → Option Refusal
 control_refusal files name =
     let main : List ℕ = bytes_under files name in
-    first_refusal (
+    first_cause (
     file_refusal name 1048576 (ControlTooLong 0) (files name)
     ∷ include_refusal main
     ∷ included_refusals files (include_names main)
@@ -81,7 +76,7 @@ picks_refusal lines = option_map phase_fault (first_faulty (phase_fault_at lines
 -- a phase file, and then its lines
 unfoldable pub phases_refusal : Files → List ℕ → Option Refusal
 phases_refusal files name =
-    first_refusal (
+    first_cause (
     file_refusal name 16777216 PhasesTooLong (files name)
     ∷ picks_refusal (numbered_lines (bytes_under files name))
     ∷ [])

@@ -12,7 +12,7 @@ mod reading;
 mod refusals;
 mod telling;
 
-pub use file_words::{file_word, is_file_word};
+pub use file_words::is_file_word;
 pub use input::{RunInput, read_run};
 pub use reading::file_name;
 pub use refusals::Refusal;

@@ -5,7 +5,8 @@ ghost use Rattle.edt_outside.specs.Counts.{RisesExactly};
 ghost use Rattle.control_reader.specs.Limits.{IsControl};
 ghost use Rattle.phase_reader.specs.Limits.{IsEvent};
 ghost use Rattle.run_input.specs.FilesUnder.{bytes_under};
-ghost use Rattle.run_input.specs.FirstRefusals.{control_refusal, file_refusal, first_refusal, included_refusals, phases_refusal};
+ghost use Rattle.text_terms.specs.Faults.{first_cause};
+ghost use Rattle.run_input.specs.FirstRefusals.{control_refusal, file_refusal, included_refusals, phases_refusal};
 ghost use Rattle.run_input.specs.Refusals.{is_cause, status_of, status_of_answer};
 ghost use Rattle.run_input.specs.Inside.Stages.{ArePhasesUnder, IsControlUnder, IsFile, Reads};
 
@@ -59,7 +60,7 @@ fn read_included<S: Shelf>(
 ) -> Result<Vec<Vec<u8>>, Refusal>
     requires { length names.now ≤ 16 }
     ensures told { IfSome (S.files shelf.old) (λ files.
-        Reads (first_refusal (included_refusals files names.now))
+        Reads (first_cause (included_refusals files names.now))
         (λ included. map (λ bytes. bytes.items) included.items ≡ map (bytes_under files) names.now) result) }
     ensures one_each { IfOk result (λ included. vec_len included ≡ length names.now) }
     ensures sizes { IfOk result (λ included. All (λ bytes. vec_len bytes ≤ 1048576) included.items) }
@@ -145,10 +146,7 @@ pub fn file_name(alloc: Global, word: &str) -> Result<Name, AllocError>
     requires named { IsTrue (is_name 512 word.now) }
     ensures { IfOk result (λ name. name ≡ word.now) }
 {
-    match Name::new(alloc, word.as_bytes()) {
-        Ok(name) => Ok(name),
-        Err(_) => Err(AllocError),
-    }
+    Name::of_valid(alloc, word.as_bytes())
 }
 
 // A fault of a control file as a refusal.

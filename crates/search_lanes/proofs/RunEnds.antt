@@ -133,6 +133,7 @@ module _ (g : GridSize) (roots : List NodeBox) (bound : NodeBox → ℕ) (margin
       over = over ∙ sym (is_past (kept.past over));
       met = λ open'. absurd (both_ways s.over over open');
       cover = λ open'. absurd (both_ways s.over over open');
+      best = λ open'. absurd (both_ways s.over over open');
     }
     | inr open' ↦
         let going = kept.going open' in
@@ -149,6 +150,7 @@ module _ (g : GridSize) (roots : List NodeBox) (bound : NodeBox → ℕ) (margin
           over = open' ∙ sym (isnt_past (omega (arith, met, kept.within)));
           met = λ _. met;
           cover = λ _. subst (λ boxes. IsPermutation boxes (event_cover g roots bound margin)) only (end_cover s.met (boxes_of s) going.bag stop);
+          best = λ _. end_upper s.met (boxes_of s) going.bag low;
         }
   ]
     where

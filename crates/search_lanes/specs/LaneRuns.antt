@@ -3,10 +3,11 @@ use Rattle.std.specs.Prelude.{◌≡◌, ℕ, nat_lt, Bool, true, false, List, [
 use Rattle.std.specs.List.Sorted.{IsPermutation}
 use Rattle.node_boxes.specs.declared.node_box.NodeBox.{NodeBox}
 use Rattle.node_boxes.specs.Grid.{GridSize}
+use Rattle.octree_search.specs.Near.{best_of}
 use Rattle.octree_search.specs.Outcomes.{event_cover, event_met}
 use Rattle.search_lanes.specs.declared.lane_events.LaneEvent.{LaneEvent}
 use Rattle.search_lanes.specs.declared.lane_events.LaneEvent.TheVariants.{Take, Done, Lost}
-use Rattle.search_lanes.specs.Lanes.{LaneState, is_finished, start, step}
+use Rattle.search_lanes.specs.Lanes.{LaneState, is_finished, start, step, upper_of}
 
 -- the events are possible one after another from a state, and lead to another one
 abbrev pub Run : (NodeBox → ℕ) → ℕ → ℕ → LaneState → List LaneEvent → LaneState → Type 0
@@ -22,11 +23,12 @@ pub record IsFinishedRun (bound : NodeBox → ℕ) (margin budget lanes : ℕ) (
   pub finished : is_finished margin end ≡ true
 
 -- a state is what every finished run leads to: the budget was passed exactly where the cover of the event meets more boxes, and else the
--- open boxes are those of the cover, each once, and as many were met as the cover meets
+-- open boxes are those of the cover, each once, as many were met as the cover meets, and the greatest bound is the best score
 pub record IsEndOf (g : GridSize) (roots : List NodeBox) (bound : NodeBox → ℕ) (margin budget : ℕ) (end : LaneState) : Type 0 where
   pub over : end.over ≡ nat_lt budget (event_met g roots bound margin)
   pub met : end.over ≡ false → end.met ≡ event_met g roots bound margin
   pub cover : end.over ≡ false → IsPermutation end.waiting (event_cover g roots bound margin)
+  pub best : end.over ≡ false → upper_of end ≡ best_of g bound
 
 -- an event loses a lane
 abbrev pub is_loss : LaneEvent → Bool

@@ -16,10 +16,10 @@ ghost use Rattle.search_lanes.specs.Lanes.{LaneState, held, start, upper_of};
 ghost use Rattle.search_lanes.specs.Schedule.{schedule};
 
 /// Whatever the number of lanes, the order of events and the lanes that are lost: a finished run has passed the budget exactly where one
-/// search would, and else its open boxes are those of the cover of the event, and as many were met. In the course of a run that isn't over
-/// the open and held boxes are the leaves of one cut per root, each once, and as many boxes were met as the cuts have, at most as many as
-/// the budget allows. The rule of the cover opens each box that these cuts split and each one that a lane holds, and no node scores more
-/// than the greatest bound.
+/// search would, and else its open boxes are those of the cover of the event, as many were met, and the greatest bound is the best score. In
+/// the course of a run that isn't over the open and held boxes are the leaves of one cut per root, each once, and as many boxes were met as
+/// the cuts have, at most as many as the budget allows. The rule of the cover opens each box that these cuts split and each one that a lane
+/// holds, and no node scores more than the greatest bound.
 pub fn any_order_law()
     ensures end { (g : GridSize) (roots : List NodeBox) (bound : NodeBox → ℕ) (margin budget lanes : ℕ)
         (events : List LaneEvent) → AreRoots g roots → BoundsFall g roots bound

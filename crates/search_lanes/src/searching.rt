@@ -22,8 +22,8 @@ pub struct LaneRun {
     pub events: Vec<LaneEvent>,
 }
 
-/// Searches as `octree_search::search` does, divided over 1 to 64 lanes: what is found is the same, and so is the number of bounds that
-/// the judge is asked for, whatever the lanes and the seed.
+/// Searches as `octree_search::search` does, divided over 1 to 64 lanes: what is found is the same, whatever the lanes and the seed. The judge
+/// is asked once for each box that is met, and where the budget isn't passed these are as many as one search meets.
 ///
 /// The events are the schedule of the seed, and a finished run. A generator begins with the seed modulo 2^64. While the run isn't finished,
 /// it draws; where the draw is 0 modulo 64 and more than one lane is left, the greatest lane that is left is lost. Else a second draw chooses
@@ -66,7 +66,8 @@ pub fn search_lanes<J: Judge>(
     ensures events { IfOk result (λ run.
         run.events.items ≡ schedule (J.bound_of judge.old) margin budget lanes seed roots.now) }
     ensures finished { IfOk result (λ run.
-        IsFinishedRun (J.bound_of judge.old) margin budget lanes roots.now run.events.items) }
+        (happened : IsFinishedRun (J.bound_of judge.old) margin budget lanes roots.now run.events.items)
+        × (J.count judge.new ≡ J.count judge.old + happened.end.met)) }
 {
     let mut shared = Lanes::begin(alloc, judge, grid, roots, lanes, margin, budget)?;
     let mut events = Vec::new(alloc);

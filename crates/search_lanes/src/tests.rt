@@ -259,14 +259,32 @@ fn one_lane_opens_the_root_and_then_the_box_that_scores(rt: HostRuntime) -> Resu
 }
 
 #[test]
+fn a_seed_gives_its_schedule_to_several_lanes(rt: HostRuntime) -> Result<(), Fail> {
+    let events = [
+        Take { lane: 2, place: 0 },
+        Done { lane: 2 },
+        Lost { lane: 2 },
+        Take { lane: 1, place: 0 },
+        Done { lane: 1 },
+    ];
+    let (run, asked) = searched(rt.alloc(), 3, -1, 8)?;
+    assert!(rt; is_first_node(&run.found));
+    assert_eq!(rt; run.events.as_slice(), &events[..]);
+    assert_eq!(rt; asked, 5);
+    Ok(())
+}
+
+#[test]
 fn lanes_and_seeds_change_nothing_of_what_is_found(rt: HostRuntime) -> Result<(), Fail> {
     for seed in 0..40 {
         for lanes in [2, 3, 5, 64] {
             let (run, asked) = searched(rt.alloc(), lanes, seed, 8)?;
             assert!(rt; is_first_node(&run.found));
             assert_eq!(rt; asked, 5);
-            let (short, _) = searched(rt.alloc(), lanes, seed, 4)?;
+            // after the root and its two children, the next two pass the budget
+            let (short, asked) = searched(rt.alloc(), lanes, seed, 4)?;
             assert!(rt; matches!(short.found, Found::Budget));
+            assert_eq!(rt; asked, 3);
         }
     }
     Ok(())

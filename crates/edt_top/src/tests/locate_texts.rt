@@ -193,7 +193,7 @@ fn tells_what_lanes_do_and_changes_no_other_line(rt: HostRuntime) -> Result<(), 
     for (lanes, seed, line) in [
         ("1", "54321", ""),
         ("3", "54321", "LANES 3 EVENTS 4 LOST 0\n"),
-        // The first draw loses a lane.
+        // A draw loses a lane.
         ("3", "-1", "LANES 3 EVENTS 5 LOST 1\n"),
         ("64", "54321", "LANES 64 EVENTS 4 LOST 0\n"),
     ] {

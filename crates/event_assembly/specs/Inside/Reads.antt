@@ -15,7 +15,8 @@ use Rattle.time_grid.specs.Numbers.{is_over}
 use Rattle.event_assembly.specs.declared.faults.AssembleFault.{AssembleFault}
 use Rattle.event_assembly.specs.declared.faults.AssembleFault.TheVariants.{Absent, Failed, Body, Align, Memory}
 use Rattle.event_assembly.specs.Answers.{IfToldFault}
-use Rattle.event_assembly.specs.Assembling.{first_fault, roots_for}
+use Rattle.text_terms.specs.Faults.{first_cause}
+use Rattle.event_assembly.specs.Assembling.{roots_for}
 use Rattle.event_assembly.specs.Headers.{header_of, header_fault, fault_of_file}
 use Rattle.event_assembly.specs.Names.{header_name, body_name}
 use Rattle.event_assembly.specs.Rows.{body_search_times, times_for, fault_of_row_file, row_fault, row_times}
@@ -41,8 +42,8 @@ ReadsHeader files control key (Err fault) = IsRefusal (header_fault files contro
 -- the answer for the headers of keys, the first fault of which decides
 abbrev pub ReadsHeaders : Files → ControlValues → List GridKey → Result (Vec (Option Header)) AssembleFault → Type 0
 ReadsHeaders files control keys (Ok headers) =
-    (first_fault (map (header_fault files control) keys) ≡ None) × (headers.items ≡ map (header_in files control) keys)
-ReadsHeaders files control keys (Err fault) = IsRefusal (first_fault (map (header_fault files control) keys)) fault
+    (first_cause (map (header_fault files control) keys) ≡ None) × (headers.items ≡ map (header_in files control) keys)
+ReadsHeaders files control keys (Err fault) = IsRefusal (first_cause (map (header_fault files control) keys)) fault
 
 -- the refusal of a body of this name, by the fault of its stream
 abbrev pub body_refusal : List ℕ → StreamFault → AssembleFault
@@ -91,6 +92,6 @@ ReadsRow files control key header (Err fault) = ReadsTimes files control key hea
 -- the answer for the rows of keys, the first fault of which decides
 abbrev pub ReadsRows : Files → ControlValues → List GridKey → Result FieldTimes AssembleFault → Type 0
 ReadsRows files control keys (Ok field) =
-    (first_fault (map (row_fault files control) keys) ≡ None)
+    (first_cause (map (row_fault files control) keys) ≡ None)
     × (field ≡ record { grid = control.frame.grid; roots = roots_for control; rows = map (row_times files control) keys })
-ReadsRows files control keys (Err fault) = IsRefusal (first_fault (map (row_fault files control) keys)) fault
+ReadsRows files control keys (Err fault) = IsRefusal (first_cause (map (row_fault files control) keys)) fault

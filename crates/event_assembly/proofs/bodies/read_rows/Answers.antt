@@ -4,7 +4,8 @@ use Rattle.edt_score.specs.Field.{FieldTimes}
 use Rattle.control_reader.specs.ControlValues.{values_of}
 use Rattle.station_table.specs.Limits.{IsKey}
 use Rattle.event_assembly.specs.declared.faults.AssembleFault.TheVariants.{Memory}
-use Rattle.event_assembly.specs.Assembling.{first_fault, keys_at}
+use Rattle.text_terms.specs.Faults.{first_cause}
+use Rattle.event_assembly.specs.Assembling.{keys_at}
 use Rattle.event_assembly.specs.Rows.{row_fault, row_times}
 use Rattle.event_assembly.specs.Inside.Reads.{IsConvertible, ReadsRows}
 use Rattle.event_assembly.proofs.CountLaws.{ended_more, ended_now, ended_any}
@@ -58,7 +59,7 @@ returns-in_err-times-clause-told g c =
     let k : ℕ = get_or rows i 0 in
     let one = c.requires.rows i 0 c.loop-row-test.true in
     let here = item_here keys k c.index-keys-row.result one.within c.index-keys-row.is in
-    passed_on (g.S.Shelf.files c.args.shelf.now) (λ files. first_fault (map (row_fault files control) (keys_at keys rows))) c.from_residual-in_err-times.result
+    passed_on (g.S.Shelf.files c.args.shelf.now) (λ files. first_cause (map (row_fault files control) (keys_at keys rows))) c.from_residual-in_err-times.result
     c.in_err-times.field-0.0 (λ files answer. ReadsRows files control (keys_at keys rows) answer) (λ files fault refused. refused)
     c.from_residual-in_err-times.ensures.1
     (AreMade-refused (g.S.Shelf.files c.args.shelf.now) (g.S.Shelf.files c.loop-row.shelf) (λ files. row_fault files control) (λ files. row_times files control)
@@ -73,10 +74,10 @@ pub returns-in_err-push_row-clause-told : goal.returns-in_err-push_row-clause-to
 returns-in_err-push_row-clause-told g c =
     let control = values_of c.args.control.now in
     let list = keys_at c.args.keys.now c.args.rows.now in
-    passed_on (g.S.Shelf.files c.args.shelf.now) (λ files. first_fault (map (row_fault files control) list)) c.from_residual-in_err-push_row.result
+    passed_on (g.S.Shelf.files c.args.shelf.now) (λ files. first_cause (map (row_fault files control) list)) c.from_residual-in_err-push_row.result
     Memory (λ files answer. ReadsRows files control list answer) (λ files fault refused. refused)
     c.from_residual-in_err-push_row.ensures.1
-    (memory_refuses (g.S.Shelf.files c.args.shelf.now) (λ files. first_fault (map (row_fault files control) list)))
+    (memory_refuses (g.S.Shelf.files c.args.shelf.now) (λ files. first_cause (map (row_fault files control) list)))
 
 pub loop-row-preserved : goal.loop-row-preserved
 loop-row-preserved g c =

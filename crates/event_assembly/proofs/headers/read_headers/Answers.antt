@@ -3,7 +3,7 @@ use Rattle.std.proofs.lemmas.List.Elements.{All-push}
 use Rattle.grid_header.specs.declared.header.Header.{Header}
 use Rattle.grid_header.specs.Reading.{IsValidHeader}
 use Rattle.control_reader.specs.ControlValues.{values_of}
-use Rattle.event_assembly.specs.Assembling.{first_fault}
+use Rattle.text_terms.specs.Faults.{first_cause}
 use Rattle.event_assembly.specs.Headers.{header_fault}
 use Rattle.event_assembly.specs.Inside.Reads.{header_in, ReadsHeaders}
 use Rattle.event_assembly.proofs.CountLaws.{ended_more, lacks_more}
@@ -15,7 +15,7 @@ use Rattle.event_assembly.proofs.headers.read_headers.Goals as goal
 pub returns-in_err-header-clause-told : goal.returns-in_err-header-clause-told
 returns-in_err-header-clause-told g c =
     let control = values_of c.args.control.now in
-    passed_on (g.S.Shelf.files c.args.shelf.now) (λ files. first_fault (map (header_fault files control) c.args.keys.now)) c.from_residual-in_err-header.result
+    passed_on (g.S.Shelf.files c.args.shelf.now) (λ files. first_cause (map (header_fault files control) c.args.keys.now)) c.from_residual-in_err-header.result
     c.in_err-header.field-0.0 (λ files answer. ReadsHeaders files control c.args.keys.now answer) (λ files fault refused. refused)
     c.from_residual-in_err-header.ensures.1
     (AreMade-refused (g.S.Shelf.files c.args.shelf.now) (g.S.Shelf.files c.loop-key.shelf) (λ files. header_fault files control) (λ files. header_in files control)

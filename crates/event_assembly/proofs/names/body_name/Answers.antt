@@ -5,8 +5,8 @@ use Rattle.event_assembly.specs.Names.{body_name}
 use Rattle.event_assembly.proofs.NameLaws.{body_name-joined, file_name, named}
 use Rattle.event_assembly.proofs.names.body_name.Goals as goal
 
-pub name_of-requires : goal.name_of-requires
-name_of-requires c =
+pub of_valid-requires : goal.of_valid-requires
+of_valid-requires c =
     file_name c.as_str-root.result.now c.as_str-phase.result.now c.as_str-station.result.now (codes ".time.usec") c.as_bytes.result.now
     (c.as_bytes.ensures.value ∙ c.in_ok-text.ensures.ok) (rw c.as_str-root.ensures.text c.requires.root)
     (rw c.as_str-phase.ensures.text c.requires.key.grid_phase) (rw c.as_str-station.ensures.text c.requires.key.station) (lit≤ tt) refl
@@ -14,6 +14,6 @@ name_of-requires c =
 pub returns : goal.returns
 returns c =
     let text = c.in_ok-text.ensures.ok in
-    named c.name_of.result (λ name. name ≡ c.as_bytes.result.now) (λ name. name ≡ body_name (values_of c.args.control.now) c.args.key.now) c.name_of.ensures
+    named c.of_valid.result (λ name. name ≡ c.as_bytes.result.now) (λ name. name ≡ body_name (values_of c.args.control.now) c.args.key.now) c.of_valid.ensures
     (λ name same. same ∙ c.as_bytes.ensures.value ∙ text
     ∙ rw (c.as_str-root.ensures.text, c.as_str-phase.ensures.text, c.as_str-station.ensures.text) (body_name-joined (values_of c.args.control.now) c.args.key.now))

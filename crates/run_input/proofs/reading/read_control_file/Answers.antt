@@ -3,7 +3,8 @@ use Rattle.std.specs.Global.{Global}
 use Rattle.std.proofs.lemmas.Result.{err_from_is_err_and}
 use Rattle.control_reader.specs.ControlFile.{IsReading, IsControlFault}
 use Rattle.control_reader.specs.Includes.{AreIncludes, IsIncludeFault}
-use Rattle.run_input.specs.FirstRefusals.{first_refusal, included_refusals}
+use Rattle.text_terms.specs.Faults.{first_cause}
+use Rattle.run_input.specs.FirstRefusals.{included_refusals}
 use Rattle.run_input.specs.Refusals.{is_untold}
 use Rattle.run_input.proofs.IncludedSteps.{AreRead}
 use Rattle.run_input.proofs.ControlSteps.{main_stops, include_refused, included_stops, control_refused, control_read}
@@ -29,11 +30,11 @@ returns-in_err-included-clause-told g c =
     let named : c.in_ok-main_name.main_name ≡ c.args.name.now = c.in_ok-main_name.ensures in
     let told = c.in_ok-main.ensures.told in
     let refusal = c.in_err-included.field-0.0 in
-    let stops = subst (λ ns. IfSome (g.S.Shelf.files c.read_file.new.shelf) (λ files. is_untold refusal ≡ false → first_refusal (included_refusals files ns) ≡ Some refusal)) c.deref-2.ensures.value c.in_err-included.ensures.told in
+    let stops = subst (λ ns. IfSome (g.S.Shelf.files c.read_file.new.shelf) (λ files. is_untold refusal ≡ false → first_cause (included_refusals files ns) ≡ Some refusal)) c.deref-2.ensures.value c.in_err-included.ensures.told in
     rw (out.1, out.2) (
     included_stops (g.S.Shelf.files c.args.shelf.now) c.args.name.now c.in_ok-main.main c.in-Ok.names.items refusal (rw named at told)
     (subst (λ b. AreIncludes b c.in-Ok.names.items) c.deref.ensures.value c.in-Ok.ensures.value)
-    (subst (λ F. IfSome F (λ files. is_untold refusal ≡ false → first_refusal (included_refusals files c.in-Ok.names.items) ≡ Some refusal)) c.in_ok-main.ensures.same_files stops))
+    (subst (λ F. IfSome F (λ files. is_untold refusal ≡ false → first_cause (included_refusals files c.in-Ok.names.items) ≡ Some refusal)) c.in_ok-main.ensures.same_files stops))
 
 pub returns-in-Ok-read_control-clause-told : goal.returns-in-Ok-read_control-clause-told
 returns-in-Ok-read_control-clause-told g c =

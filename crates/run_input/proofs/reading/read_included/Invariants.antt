@@ -1,13 +1,14 @@
 use Rattle.std.proofs.Common.{◌≡◌, ◌≤◌, take, map, IfSome, All, vec_len, None}
 use Rattle.run_input.specs.FilesUnder.{bytes_under}
-use Rattle.run_input.specs.FirstRefusals.{first_refusal, included_refusals}
+use Rattle.text_terms.specs.Faults.{first_cause}
+use Rattle.run_input.specs.FirstRefusals.{included_refusals}
 use Rattle.run_input.proofs.reading.read_included.Given as goal
 
 abbrev pub invariant-loop-name : goal.invariant-loop-name
 invariant-loop-name g l = record {
   number : l.number ≡ l.name-index;
   told : IfSome (g.S.Shelf.files l.fn.shelf) (λ files.
-      (first_refusal (included_refusals files (take l.name-index l.names)) ≡ None)
+      (first_cause (included_refusals files (take l.name-index l.names)) ≡ None)
       × (map (λ bytes. bytes.items) l.included.items ≡ map (bytes_under files) (take l.name-index l.names)));
   one_each : vec_len l.included ≡ l.name-index;
   sizes : All (λ bytes. vec_len bytes ≤ 1048576) l.included.items;

@@ -142,3 +142,12 @@ returns-clause-events g c =
     subst (λ seed. c.loop-event.events.items ≡ schedule bound c.args.margin c.args.budget c.args.lanes seed roots) (to_z-of_z w64 c.args.seed c.ranges.seed)
     (search_whole grid roots bound c.args.margin c.args.budget c.requires.roots falls c.args.lanes (cast_signed w64 (cast_unsigned w64 c.args.seed))
     c.loop-event.events.items c.loop-event.state c.loop-event.shared.state kept.search finished)
+
+pub returns-clause-finished : goal.returns-clause-finished
+returns-clause-finished g c =
+    let bound = g.J.Judge.bound_of c.args.judge.now in
+    let kept = c.loop-event.invariant in
+    let over : is_finished c.loop-event.shared.margin c.loop-event.shared.state ≡ true = c.in_default.ensures.event in
+    let finished : is_finished c.args.margin c.loop-event.shared.state ≡ true =
+    subst (λ (v : LanesView). is_finished v.margin c.loop-event.shared.state ≡ true) kept.seen over in
+    (record { end = c.loop-event.shared.state; run = kept.search.run; finished = finished }, kept.asked)

@@ -1,5 +1,5 @@
 use Rattle.std.proofs.Common.{◌∙◌, sym, ap, arith}
-use Rattle.check_top.specs.ReportLines.{unless}
+use Rattle.text_terms.specs.Faults.{unless}
 use Rattle.check_top.specs.declared.report.fault.ReportCause.TheVariants.{Number}
 use Rattle.check_top.proofs.WordSteps.{too_few, no_word, too_many, all_read}
 use Rattle.check_top.proofs.report.line_causes.words_cause.Goals as goal
