@@ -10,7 +10,7 @@ use Rattle.control_reader.specs.declared.control.PhaseId.{PhaseId}
 use Rattle.control_reader.specs.declared.fault.ControlCause.{ControlCause}
 use Rattle.control_reader.specs.declared.fault.ControlCause.TheVariants.{Name}
 use Rattle.control_reader.specs.Limits.{IsPhaseId}
-use Rattle.control_reader.specs.Words.{word_at}
+use Rattle.text_terms.specs.Words.{word_at}
 use Rattle.control_reader.specs.Values.{phase_ids_of}
 use Rattle.control_reader.specs.WordFaults.{name_fault, phase_ids_fault}
 

@@ -19,7 +19,8 @@ use Rattle.control_reader.specs.declared.values.Method.{Method}
 use Rattle.control_reader.specs.Keywords.{keyword_of, is_once, is_not_yet}
 use Rattle.control_reader.specs.ControlLines.{ControlLine, control_lines, kind_of, has_keyword, is_include, arguments_of, statement_with, statements_with}
 use Rattle.control_reader.specs.Values.{files_of, frame_of, method_of, sigma_of, cells_of, phase_ids_of, exclude_of, delay_of, alias_of, seed_of, count_of, shape_of}
-use Rattle.control_reader.specs.WordFaults.{first_cause, unless, words_fault}
+use Rattle.text_terms.specs.Faults.{first_cause, unless}
+use Rattle.control_reader.specs.WordFaults.{words_fault}
 
 -- the line includes a file and stands in an included file
 abbrev pub is_nested : ControlLine → Bool

@@ -1,9 +1,9 @@
 -- The lines of a control file, those of the included files among them, and their statements.
 use Rattle.std.specs.Prelude.{ℕ, ◌+◌, ◌-◌, ◌==◌, Bool, false, if◌then◌else◌, List, [], ◌∷◌, length, take, drop, map, filter, count_by, slice_get, slice_index, unwrap_or, Option, Some, None, codes}
-use Rattle.std.specs.List.{enumerate_from, find, flat_map, range_with_len}
+use Rattle.std.specs.List.{find, flat_map, range_with_len}
 use Rattle.std.specs.Option.{option_map}
 use Rattle.std.specs.Str.{bytes_eq}
-use Rattle.text_terms.specs.Lines.{LineText, lines_of}
+use Rattle.text_terms.specs.Lines.{NumberedLine, numbered_lines}
 use Rattle.text_terms.specs.Words.{words_of}
 use Rattle.control_reader.specs.declared.statement.Statement.{Statement}
 use Rattle.control_reader.specs.declared.statement.LineKind.{LineKind}
@@ -19,8 +19,7 @@ pub record ControlLine : Type 0 where
 -- the lines of one file
 abbrev pub file_lines : ℕ → List ℕ → List ControlLine
 file_lines file bytes =
-    map (λ (line : ℕ × List ℕ). record { file = file; number = line.0; bytes = line.1 })
-    (enumerate_from 1 (map (λ (line : LineText). line.bytes) (lines_of bytes)))
+    map (λ (line : NumberedLine). record { file = file; number = line.0; bytes = line.1 }) (numbered_lines bytes)
 
 -- the kind of a line with this keyword
 abbrev pub kind_of_statement : Option Statement → LineKind

@@ -11,7 +11,8 @@ use Rattle.control_reader.specs.declared.control.Delay.{Delay}
 use Rattle.control_reader.specs.declared.control.Alias.{Alias}
 use Rattle.control_reader.specs.declared.values.Files.{Files}
 use Rattle.control_reader.specs.declared.values.Method.{Method}
-use Rattle.control_reader.specs.Words.{word_at, whole_at, millionths_at, count_at}
+use Rattle.text_terms.specs.Words.{word_at}
+use Rattle.control_reader.specs.Words.{whole_at, millionths_at, count_at}
 
 -- the statement has a word at the place
 abbrev pub has_word : ℕ → List (List ℕ) → Bool

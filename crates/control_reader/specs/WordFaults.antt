@@ -2,25 +2,17 @@
 use Rattle.std.specs.Prelude.{ℕ, ◌*◌, ◌==◌, ◌&&◌, ◌||◌, ◌^◌, Bool, true, not, nat_le, nat_lt, if◌then◌else◌, List, [], ◌∷◌, length, Option, Some, None, ℤ, pos, int_le, unsigned_abs, codes}
 use Rattle.std.specs.List.{list_all, list_any}
 use Rattle.std.specs.Str.{bytes_eq}
+use Rattle.text_terms.specs.Faults.{first_cause, unless}
 use Rattle.text_terms.specs.Names.{is_name}
 use Rattle.fixed_decimal.specs.Value.{millionths_of, whole_of}
 use Rattle.control_reader.specs.declared.fault.ControlCause.{ControlCause}
 use Rattle.control_reader.specs.declared.fault.ControlCause.TheVariants.{Fields, Name, Number, Method, FileType, Limit}
 use Rattle.control_reader.specs.declared.statement.Statement.{Statement}
 use Rattle.control_reader.specs.declared.statement.Statement.TheVariants.{Locfiles, Locgrid, Locmeth, Locgau, Locsearch, Locphaseid, Locexclude, Locdelay, Localias, Control, Include, Edtnear, Edtbudget, Edtkernel, Edtlanes, Locgau2}
-use Rattle.control_reader.specs.Words.{word_at, count_at}
+use Rattle.text_terms.specs.Words.{word_at}
+use Rattle.control_reader.specs.Words.{count_at}
 use Rattle.control_reader.specs.Values.{has_word}
 use Rattle.control_reader.specs.Keywords.{least_of}
-
--- a cause, unless the test passes
-abbrev pub unless : Bool → ControlCause → Option ControlCause
-unless test cause = if test then None else Some cause
-
--- the first cause of a list
-abbrev pub first_cause : List (Option ControlCause) → Option ControlCause
-first_cause [] = None
-first_cause (None ∷ causes) = first_cause causes
-first_cause (Some cause ∷ causes) = Some cause
 
 -- a word is a name of at most so many bytes
 abbrev pub name_fault : ℕ → List ℕ → Option ControlCause
