@@ -48,7 +48,7 @@ list_more p (x ∷ lines) line =
       | inr later ↦ rw later rest
     ]
 
-count_more : (p : ControlLine → Bool) (lines : List ControlLine) (line : ControlLine)
+pub count_more : (p : ControlLine → Bool) (lines : List ControlLine) (line : ControlLine)
     → count_by p (lines ++ line ∷ []) ≡ (if p line then count_by p lines + 1 else count_by p lines)
 count_more p lines line = elim (by_bool (p line)) [
   | inl has ↦ rw has (grind (arith, common_steps))

@@ -1,4 +1,4 @@
--- The first fault in the words behind a keyword.
+-- The first fault in the words after a keyword.
 use Rattle.std.specs.Prelude.{ℕ, ◌*◌, ◌==◌, ◌&&◌, ◌||◌, ◌^◌, Bool, true, not, nat_le, nat_lt, if◌then◌else◌, List, [], ◌∷◌, length, Option, Some, None, ℤ, pos, int_le, unsigned_abs, codes}
 use Rattle.std.specs.List.{list_all, list_any}
 use Rattle.std.specs.Str.{bytes_eq}
@@ -115,7 +115,7 @@ method_fault words =
 unfoldable pub sigma_fault : List (List ℕ) → Option ControlCause
 sigma_fault words = decimal_fault (from_to (pos 0) (pos (10 ^ 8))) (word_at 0 words)
 
--- LOCSEARCH: behind OCT three whole numbers
+-- LOCSEARCH: after OCT three whole numbers
 abbrev pub octree_fault : List (List ℕ) → Option ControlCause
 octree_fault words =
     first_cause (
@@ -183,7 +183,7 @@ budget_fault words = whole_fault (from_to (pos 1) (pos 4000000)) (word_at 0 word
 unfoldable pub lanes_fault : List (List ℕ) → Option ControlCause
 lanes_fault words = whole_fault (from_to (pos 1) (pos 64)) (word_at 0 words)
 
--- EDTKERNEL: behind COUNT a decimal of 0 to 1000 seconds
+-- EDTKERNEL: after COUNT a decimal of 0 to 1000 seconds
 abbrev pub limit_fault : List (List ℕ) → Option ControlCause
 limit_fault words =
     first_cause (
@@ -191,7 +191,7 @@ limit_fault words =
     ∷ decimal_fault (from_to (pos 0) (pos (10 ^ 9))) (word_at 1 words)
     ∷ [])
 
--- COUNT, or GAUSS or TRIANGLE, behind which no word is read
+-- COUNT, or GAUSS or TRIANGLE, after which no word is read
 unfoldable pub shape_fault : List (List ℕ) → Option ControlCause
 shape_fault words =
     if bytes_eq (word_at 0 words) (codes "COUNT") then limit_fault words

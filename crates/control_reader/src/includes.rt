@@ -10,7 +10,7 @@ use crate::words::read_include;
 use edt_text::{Name, PlacedWords};
 use std::alloc::Global;
 
-/// Puts the name of the file that a line of the main file includes behind the others, or answers the first fault in it. No other line is
+/// Puts the name of the file that a line of the main file includes after the others, or answers the first fault in it. No other line is
 /// looked at.
 #[tactic(auto, unfolding(crate::specs::ControlLines::kind_of, crate::specs::ControlLines::arguments_of))]
 pub(crate) fn take_name(

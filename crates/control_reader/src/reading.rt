@@ -48,7 +48,7 @@ pub fn include_names(alloc: Global, main: &[u8]) -> Result<Vec<Name>, ControlFau
 /// Reads a main control file and the files that it includes, one for each `INCLUDE` line, each of at most 1,048,576 bytes.
 ///
 /// The statements are the lines of the main file with the lines of each included file in place of its `INCLUDE` line. The first faulty
-/// line in this order decides, and in it the first cause, as `ControlCause` says. `Missing` comes behind all lines, with file 0 and
+/// line in this order decides, and in it the first cause, as `ControlCause` says. `Missing` comes after all lines, with file 0 and
 /// line 0, in the order of `Keyword`. `Memory` comes for want of memory alone.
 pub fn read_control(
     alloc: Global,
@@ -66,7 +66,7 @@ pub fn read_control(
     draft.finish()
 }
 
-// What all lines say, those of each included file behind its line, or their first fault.
+// What all lines say, those of each included file after its line, or their first fault.
 fn read_lines(alloc: Global, main: &[u8], included: &[Vec<u8>]) -> Result<Draft, ControlFault>
     requires main { length main.now ≤ 1048576 }
     requires files { length included.now ≡ include_count main.now }

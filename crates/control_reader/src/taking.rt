@@ -157,7 +157,7 @@ fn put<T: Drop>(place: &mut Option<T>, read: Result<T, ControlCause>) -> Result<
     Ok(())
 }
 
-/// Puts a value that was read behind the others, or hands its cause on.
+/// Puts a value that was read after the others, or hands its cause on.
 pub(crate) fn push<T: Drop>(
     list: &mut Vec<T>,
     read: Result<T, ControlCause>,

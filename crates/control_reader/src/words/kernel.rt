@@ -36,7 +36,7 @@ pub(crate) fn read_shape(arguments: &PlacedWords) -> Result<Shape, ControlCause>
     Err(ControlCause::FileType)
 }
 
-// The limit behind `COUNT`, in microseconds.
+// The limit after `COUNT`, in microseconds.
 fn read_limit(arguments: &PlacedWords) -> Result<u64, ControlCause>
     ensures value { IfOk result (λ limit. limit ≡ unsigned_abs (millionths_at 1 (placed_words arguments.now))) }
     ensures good { OnOk result (limit_fault (placed_words arguments.now) ≡ None) }

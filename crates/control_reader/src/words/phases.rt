@@ -21,7 +21,7 @@ const LONGEST_NAME: usize = 64;
 
 const GREATEST_DELAY: u64 = 10_000_000_000;
 
-/// Adds what `LOCPHASEID` says: an entry for each word behind the standard phase. After an error the list is of no use.
+/// Adds what `LOCPHASEID` says: an entry for each word after the standard phase. After an error the list is of no use.
 pub(crate) fn read_phase_ids(
     alloc: Global,
     arguments: &PlacedWords,
