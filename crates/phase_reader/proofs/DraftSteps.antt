@@ -9,24 +9,25 @@ use Rattle.phase_reader.specs.declared.draft.Draft.{Draft}
 use Rattle.phase_reader.specs.declared.kind.LineKind.TheVariants.{Blank, Comment, PublicId, PickLine}
 use Rattle.phase_reader.specs.declared.phases.Event.{Event}
 use Rattle.phase_reader.specs.declared.phases.Pick.{Pick}
-use Rattle.phase_reader.specs.LineKinds.{NumberedLine, kind_of, parts, counts, picks, is_parting, is_passed, is_pick}
+use Rattle.text_terms.specs.Lines.{NumberedLine}
+use Rattle.phase_reader.specs.LineKinds.{kind_of, parts, counts, picks, is_parting, is_passed, is_pick}
 use Rattle.phase_reader.specs.PickFields.{pick_of}
 use Rattle.phase_reader.specs.PhaseEvents.{is_event, events_of_parts, event_lines, last_part, parts_before_last, open_lines, closed_lines, events_of, passes_limit}
 use Rattle.phase_reader.specs.PhaseFile.{picks_of_events}
 use Rattle.phase_reader.specs.Inside.Drafts.{as_event, Follows}
 use Rattle.phase_reader.proofs.EventLaws.{split_some, last_cut, last_of_snoc, before_of_snoc, split_snoc_yes, split_snoc_no}
 
--- nothing behind a list
-nothing_behind : {A : Type 0} (xs : List A) → xs ++ [] ≡ xs
-nothing_behind [] = refl
-nothing_behind (x ∷ xs) = ap (λ ys. x ∷ ys) (nothing_behind xs)
+-- nothing after a list
+nothing_after : {A : Type 0} (xs : List A) → xs ++ [] ≡ xs
+nothing_after [] = refl
+nothing_after (x ∷ xs) = ap (λ ys. x ∷ ys) (nothing_after xs)
 
--- the events of parts behind one another
+-- the events of parts one after another
 parts_append : (ps qs : List (List NumberedLine)) → events_of_parts (ps ++ qs) ≡ events_of_parts ps ++ events_of_parts qs
 parts_append ps qs =
     ap (filter is_event) (map-append (filter is_pick) ps qs) ∙ filter-append is_event (map (filter is_pick) ps) (map (filter is_pick) qs)
 
--- the events are those before the last blank line and the one behind it
+-- the events are those before the last blank line and the one after it
 event_lines_cut : (lines : List NumberedLine) → event_lines lines ≡ closed_lines lines ++ filter is_event (open_lines lines ∷ [])
 unfolding closed_lines open_lines
 event_lines_cut lines =
@@ -46,7 +47,7 @@ events_cut lines =
     ∙ map-append (map pick_of) (closed_lines lines) (filter is_event (open_lines lines ∷ []))
     ∙ ap (λ es. map (map pick_of) (closed_lines lines) ++ es) (one_event (open_lines lines))
 
--- a blank line ends the event behind the last one
+-- a blank line ends the event after the last one
 open_parting : (lines : List NumberedLine) (line : NumberedLine) → is_parting line ≡ true → open_lines (lines ++ line ∷ []) ≡ []
 unfolding open_lines
 open_parting lines line is =
@@ -59,7 +60,7 @@ closed_parting lines line is =
     ap (λ ps. events_of_parts (parts_before_last ps)) (split_snoc_yes is_parting lines line is)
     ∙ ap events_of_parts (before_of_snoc (slice_split is_parting lines) [])
 
--- every other line stands behind the last blank line
+-- every other line stands after the last blank line
 open_other : (lines : List NumberedLine) (line : NumberedLine) → is_parting line ≡ false
     → open_lines (lines ++ line ∷ []) ≡ open_lines lines ++ filter is_pick (line ∷ [])
 unfolding open_lines
@@ -108,7 +109,7 @@ follows_comment lines line draft follows is =
     let no_pick : is_pick line ≡ false = ap picks is in
     record {
       events = rw (closed_other lines line inside) follows.events;
-      picks = rw (open_other lines line inside, no_pick) (follows.picks ∙ ap (map pick_of) (sym (nothing_behind (open_lines lines))));
+      picks = rw (open_other lines line inside, no_pick) (follows.picks ∙ ap (map pick_of) (sym (nothing_after (open_lines lines))));
       passed = follows.passed ∙ sym (count_no lines line other);
     }
 
@@ -123,7 +124,7 @@ follows_passed lines line old new follows is events same more =
       events = rw (closed_other lines line inside) (ap (λ es. picks_of_events es.items) events ∙ follows.events);
       picks =
           rw (open_other lines line inside, no_pick) (
-          ap (λ ps. ps.items) same ∙ follows.picks ∙ ap (map pick_of) (sym (nothing_behind (open_lines lines))));
+          ap (λ ps. ps.items) same ∙ follows.picks ∙ ap (map pick_of) (sym (nothing_after (open_lines lines))));
       passed = more ∙ ap (λ n. n + 1) follows.passed ∙ sym (count_yes lines line counted);
     }
 
@@ -155,7 +156,7 @@ none_open (line ∷ more) e = absurd cc
 events_counted : (lines : List NumberedLine) (draft : Draft) → Follows lines draft → draft.picks.items ≡ [] → length draft.events.items ≡ length (event_lines lines)
 events_counted lines draft follows none =
     let no_open : filter is_event (open_lines lines ∷ []) ≡ [] = none_open (open_lines lines) (sym follows.picks ∙ none) in
-    let closed : event_lines lines ≡ closed_lines lines = event_lines_cut lines ∙ ap (λ es. closed_lines lines ++ es) no_open ∙ nothing_behind (closed_lines lines) in
+    let closed : event_lines lines ≡ closed_lines lines = event_lines_cut lines ∙ ap (λ es. closed_lines lines ++ es) no_open ∙ nothing_after (closed_lines lines) in
     let seen : length (picks_of_events draft.events.items) ≡ length draft.events.items = length-map draft.events.items (λ (event : Event). event.picks.items) in
     let told : length (map (map pick_of) (closed_lines lines)) ≡ length (closed_lines lines) = length-map (closed_lines lines) (map pick_of) in
     sym seen ∙ ap length follows.events ∙ told ∙ ap length (sym closed)

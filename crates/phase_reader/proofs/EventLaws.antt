@@ -3,7 +3,7 @@ use Rattle.std.proofs.Common.{◌≡◌, Bool, true, false, List, [], ◌∷◌,
 use Rattle.std.specs.List.{slice_split, onto_first}
 use Rattle.std.proofs.lemmas.List.Splits.{slice_split-cons_yes, slice_split-cons_no}
 use Rattle.text_terms.proofs.Cases.{by_bool}
-use Rattle.phase_reader.specs.LineKinds.{NumberedLine}
+use Rattle.text_terms.specs.Lines.{NumberedLine}
 use Rattle.phase_reader.specs.PhaseEvents.{last_part, parts_before_last}
 
 abbrev pub Parts : Type 0

@@ -6,5 +6,4 @@ pub mod DigitLaws
 pub mod FaultSteps
 pub mod DateLaws
 pub mod PickSteps
-pub mod FieldSteps
 pub mod ReadSteps

@@ -39,44 +39,6 @@ numbered_here n (suc k) (y ∷ ys) x e =
     let sum : n + suc k ≡ n + 1 + k = omega arith in
     record { here = rw sum more.here; upto = rw sum (ap (λ zs. (n, y) ∷ zs) more.upto) }
 
--- nothing stands past the end
-pub get_past : {A : Type 0} (k n : ℕ) (xs : List A) → k ≤ n → drop k xs ≡ [] → slice_get xs n ≡ None
-get_past k n xs less e = slice_get_past xs n (omega (arith, drop_none k xs e))
-
--- the first element behind those that were passed over, as a cursor gives it
-pub first_copied : {P : Type 0} (o : Option (Bor (List ℕ))) (k : ℕ) (xs left next : List (List ℕ)) → left ≡ drop k xs → (P → left ≡ [])
-    → IfNone o P → IfSome o (λ x. left ≡ x.now ∷ next) → option_copied o ≡ slice_get xs k
-first_copied None k xs left next from ends none some = sym (get_past k k xs (omega arith) (sym from ∙ ends none))
-first_copied (Some x) k xs left next from ends none some = sym (drop_here k xs x.now next (sym from ∙ some)).here
-
--- an element stands before the end, and none behind it
-pub get_none : {A : Type 0} (k : ℕ) (xs : List A) → slice_get xs k ≡ None → length xs ≤ k
-get_none k [] e = omega arith
-get_none zero (x ∷ xs) e = absurd cc
-get_none (suc k) (x ∷ xs) e = omega (arith, get_none k xs e)
-
--- what stands at a place behind elements that are passed over
-pub get_drop : {A : Type 0} (k n : ℕ) (xs : List A) → slice_get (drop k xs) n ≡ slice_get xs (k + n)
-get_drop zero n xs = let e : 0 + n ≡ n = omega arith in rw e refl
-get_drop (suc k) n [] = refl
-get_drop (suc k) n (x ∷ xs) = let e : suc k + n ≡ suc (k + n) = omega arith in rw e (get_drop k n xs)
-
--- nothing stands behind no elements
-drop_nil : {A : Type 0} (n : ℕ) → drop n (let xs : List A = [] in xs) ≡ []
-drop_nil zero = refl
-drop_nil (suc n) = refl
-
--- to pass over more
-pub drop_drop : {A : Type 0} (k n : ℕ) (xs : List A) → drop n (drop k xs) ≡ drop (k + n) xs
-drop_drop zero n xs = let e : 0 + n ≡ n = omega arith in rw e refl
-drop_drop (suc k) n [] = drop_nil n ∙ sym (drop_nil (suc k + n))
-drop_drop (suc k) n (x ∷ xs) = let e : suc k + n ≡ suc (k + n) = omega arith in rw e (drop_drop k n xs)
-
--- what holds where there is no value
-pub none_is : {A P : Type 0} (o : Option A) → P → IfNone o P
-none_is None p = p
-none_is (Some x) p = tt
-
 -- what holds where there is a value
 pub ok_is : {T E P : Type 0} (r : Result T E) → P → OnOk r P
 ok_is (Ok x) p = p

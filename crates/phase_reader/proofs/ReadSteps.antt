@@ -7,7 +7,7 @@ use Rattle.std.proofs.lemmas.List.FromFn.{length-enumerate_from}
 use Rattle.std.proofs.lemmas.Option.{slice_get_past}
 use Rattle.std.proofs.lemmas.Grind.{common_steps}
 use Rattle.text_terms.specs.Faults.{NoFaultBelow}
-use Rattle.text_terms.specs.Lines.{LineText, lines_of}
+use Rattle.text_terms.specs.Lines.{LineText, lines_of, NumberedLine, numbered_lines}
 use Rattle.text_terms.proofs.Cases.{by_bool}
 use Rattle.edt_text.specs.declared.cursor.Line.{Line}
 use Rattle.edt_text.specs.declared.cursor.Lines.{Lines}
@@ -15,7 +15,6 @@ use Rattle.edt_text.specs.LineCursor.{line_text, lines_left, lines_passed}
 use Rattle.phase_reader.specs.declared.draft.Draft.{Draft}
 use Rattle.phase_reader.specs.declared.fault.PhaseCause.{PhaseCause}
 use Rattle.phase_reader.specs.declared.phases.Phases.{Phases}
-use Rattle.phase_reader.specs.LineKinds.{NumberedLine, numbered_lines}
 use Rattle.phase_reader.specs.PickFields.{pick_of}
 use Rattle.phase_reader.specs.PhaseEvents.{closed_lines}
 use Rattle.phase_reader.specs.PhaseFile.{fault_after, fault_at, picks_of_events, IsReading, IsPhaseFault}

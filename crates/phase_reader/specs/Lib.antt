@@ -1,5 +1,4 @@
 pub mod LineKinds
-pub mod PickWords
 pub mod PickFields
 pub mod PickFaults
 pub mod PhaseEvents

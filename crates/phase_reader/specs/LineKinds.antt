@@ -1,19 +1,10 @@
--- The numbered lines of a phase file, and their kinds.
-use Rattle.std.specs.Prelude.{ℕ, Bool, true, false, ◌==◌, if◌then◌else◌, List, [], ◌∷◌, map, slice_index, codes}
-use Rattle.std.specs.List.{enumerate_from}
+-- The kinds of the lines of a phase file.
+use Rattle.std.specs.Prelude.{ℕ, Bool, true, false, ◌==◌, if◌then◌else◌, List, [], ◌∷◌, slice_index, codes}
 use Rattle.std.specs.Str.{bytes_eq}
-use Rattle.text_terms.specs.Lines.{LineText, lines_of}
+use Rattle.text_terms.specs.Lines.{NumberedLine}
 use Rattle.text_terms.specs.Words.{words_of}
 use Rattle.phase_reader.specs.declared.kind.LineKind.{LineKind}
 use Rattle.phase_reader.specs.declared.kind.LineKind.TheVariants.{Blank, Comment, PublicId, PickLine}
-
--- a line with its number
-abbrev pub NumberedLine : Type 0
-NumberedLine = ℕ × List ℕ
-
--- the lines of a file, numbered from 1
-abbrev pub numbered_lines : List ℕ → List NumberedLine
-numbered_lines bytes = enumerate_from 1 (map (λ (line : LineText). line.bytes) (lines_of bytes))
 
 -- a line whose first word begins with # is a comment, and one whose first word is PUBLIC_ID is passed over
 abbrev pub kind_of_first : List ℕ → LineKind

@@ -1,8 +1,9 @@
 -- The events of numbered lines.
 use Rattle.std.specs.Prelude.{ℕ, Bool, not, ◌==◌, ◌||◌, nat_le, nat_lt, ℤ, ◌-ℤ◌, unsigned_abs, List, [], ◌∷◌, length, map, filter}
 use Rattle.std.specs.List.{slice_split}
+use Rattle.text_terms.specs.Lines.{NumberedLine}
 use Rattle.phase_reader.specs.declared.phases.Pick.{Pick}
-use Rattle.phase_reader.specs.LineKinds.{NumberedLine, is_parting, is_pick}
+use Rattle.phase_reader.specs.LineKinds.{is_parting, is_pick}
 use Rattle.phase_reader.specs.PickFields.{pick_of}
 
 -- there is a pick
@@ -29,7 +30,7 @@ parts_before_last [] = []
 parts_before_last (part ∷ []) = []
 parts_before_last (part ∷ next ∷ more) = part ∷ parts_before_last (next ∷ more)
 
--- the picks behind the last blank line: those of the event that a further pick belongs to
+-- the picks after the last blank line: those of the event that a further pick belongs to
 unfoldable pub open_lines : List NumberedLine → List NumberedLine
 open_lines lines = filter is_pick (last_part (slice_split is_parting lines))
 

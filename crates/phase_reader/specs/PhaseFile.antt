@@ -1,7 +1,8 @@
 -- The reading of a phase file, and its first fault.
 use Rattle.std.specs.Prelude.{◌≡◌, ℕ, ◌+◌, nat_lt, if◌then◌else◌, List, length, take, map, count_by, slice_get, Option, Some, None}
-use Rattle.std.specs.Option.{option_and_then}
+use Rattle.std.specs.Option.{option_and_then, option_or}
 use Rattle.text_terms.specs.Faults.{HasNoFault, IsFirstFault}
+use Rattle.text_terms.specs.Lines.{NumberedLine, numbered_lines}
 use Rattle.phase_reader.specs.declared.fault.PhaseCause.{PhaseCause}
 use Rattle.phase_reader.specs.declared.fault.PhaseCause.TheVariants.{LongLine, Limit}
 use Rattle.phase_reader.specs.declared.fault.PhaseFault.{PhaseFault}
@@ -10,7 +11,7 @@ use Rattle.phase_reader.specs.declared.kind.LineKind.TheVariants.{Blank, Comment
 use Rattle.phase_reader.specs.declared.phases.Event.{Event}
 use Rattle.phase_reader.specs.declared.phases.Phases.{Phases}
 use Rattle.phase_reader.specs.declared.phases.Pick.{Pick}
-use Rattle.phase_reader.specs.LineKinds.{NumberedLine, numbered_lines, kind_of, is_passed}
+use Rattle.phase_reader.specs.LineKinds.{kind_of, is_passed}
 use Rattle.phase_reader.specs.PickFields.{pick_of}
 use Rattle.phase_reader.specs.PickFaults.{pick_fault}
 use Rattle.phase_reader.specs.PhaseEvents.{event_lines, events_of, open_lines, passes_limit}
@@ -20,17 +21,12 @@ unfoldable pub limit_fault : List NumberedLine → NumberedLine → Option Phase
 limit_fault before line =
     if passes_limit (length (event_lines before)) (map pick_of (open_lines before)) (pick_of line).time then Some Limit else None
 
--- the first cause, or else the second
-abbrev pub or_else : Option PhaseCause → Option PhaseCause → Option PhaseCause
-or_else None other = other
-or_else (Some cause) other = Some cause
-
 -- the fault of a line of this kind: of picks alone, first in their words, and then by the lines before
 abbrev pub kind_fault : LineKind → List NumberedLine → NumberedLine → Option PhaseCause
 kind_fault Blank before line = None
 kind_fault Comment before line = None
 kind_fault PublicId before line = None
-kind_fault PickLine before line = or_else (pick_fault line) (limit_fault before line)
+kind_fault PickLine before line = option_or (pick_fault line) (limit_fault before line)
 
 -- the fault of a line, given the lines before it
 abbrev pub fault_after : List NumberedLine → NumberedLine → Option PhaseCause

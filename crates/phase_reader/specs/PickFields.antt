@@ -1,14 +1,13 @@
 -- What the words of a pick mean.
-use Rattle.std.specs.Prelude.{ℕ, ◌+◌, ◌*◌, ◌/◌, ◌%◌, ◌==◌, ◌&&◌, nat_le, nat_lt, Bool, false, if◌then◌else◌, ℤ, pos, negsuc, ◌+ℤ◌, ◌*ℤ◌, List, length, Option, Some, None, unwrap_or}
+use Rattle.std.specs.Prelude.{ℕ, ◌+◌, ◌*◌, ◌/◌, ◌%◌, ◌==◌, ◌&&◌, nat_le, nat_lt, Bool, false, if◌then◌else◌, ℤ, pos, negsuc, ◌+ℤ◌, ◌*ℤ◌, List, length, slice_get, Option, Some, None, unwrap_or}
 use Rattle.std.specs.Int.{int_div_euclid}
 use Rattle.std.specs.Str.{all_ascii_digits}
 use Rattle.jiff_core.specs.Calendar.{days_in_month, days_from_civil}
+use Rattle.text_terms.specs.Lines.{NumberedLine}
 use Rattle.text_terms.specs.Numerals.{value_of}
-use Rattle.text_terms.specs.Words.{words_of}
+use Rattle.text_terms.specs.Words.{words_of, word_at}
 use Rattle.fixed_decimal.specs.Value.{millionths_of}
 use Rattle.phase_reader.specs.declared.phases.Pick.{Pick}
-use Rattle.phase_reader.specs.LineKinds.{NumberedLine}
-use Rattle.phase_reader.specs.PickWords.{PickWords, pick_words}
 
 -- the number that a word of so many digits writes
 abbrev pub digits_of : ℕ → List ℕ → Option ℕ
@@ -71,20 +70,20 @@ weight_of None = pos 1000
 weight_of (Some word) = int_div_euclid (unwrap_or (millionths_of word) (pos 0)) (pos 1000)
 
 -- the pick that words of a line of this number mean
-unfoldable pub pick_of_words : ℕ → PickWords → Pick
+unfoldable pub pick_of_words : ℕ → List (List ℕ) → Pick
 pick_of_words number words =
-    let date : ℕ = unwrap_or (date_of words.date) 0 in
-    let clock : ℕ = unwrap_or (clock_of words.clock) 0 in
+    let date : ℕ = unwrap_or (date_of (word_at 6 words)) 0 in
+    let clock : ℕ = unwrap_or (clock_of (word_at 7 words)) 0 in
     record {
       line = number;
-      station = words.station;
-      phase = words.phase;
+      station = word_at 0 words;
+      phase = word_at 4 words;
       day = (pos (year_of date), pos (month_of date), pos (day_of date));
-      time = time_of date clock (unwrap_or (millionths_of words.seconds) (pos 0));
-      error = unwrap_or (millionths_of words.error) (pos 0);
-      weight = weight_of words.weight;
+      time = time_of date clock (unwrap_or (millionths_of (word_at 8 words)) (pos 0));
+      error = unwrap_or (millionths_of (word_at 10 words)) (pos 0);
+      weight = weight_of (slice_get words 14);
     }
 
 -- the pick that a line means
 abbrev pub pick_of : NumberedLine → Pick
-pick_of line = pick_of_words line.0 (pick_words (words_of line.1))
+pick_of line = pick_of_words line.0 (words_of line.1)

@@ -1,26 +1,22 @@
 //! A phase file that is read line by line.
 ghost use Rattle.std.specs.Prelude.{◌≡◌, ◌≢◌, ◌+◌, ◌<◌, ◌≤◌, [], ◌∷◌, ◌++◌, List, IsTrue, OnOk, OnErr, IfOk, IfErr, All, length, vec_len, false, codes, ℕ};
-ghost use Rattle.std.specs.List.{list_all};
 ghost use Rattle.std.specs.Str.{bytes_eq};
-ghost use Rattle.text_terms.specs.Names.{is_name, is_name_byte};
-ghost use Rattle.text_terms.specs.Words.{words_of};
-ghost use Rattle.edt_text.specs.WordCursor.{words_left};
-ghost use Rattle.phase_reader.specs.LineKinds.{NumberedLine, kind_of};
-ghost use Rattle.phase_reader.specs.PickWords.{pick_words};
-ghost use Rattle.phase_reader.specs.PickFields.{pick_of_words, pick_of};
-ghost use Rattle.phase_reader.specs.PickFaults.{words_fault, pick_fault};
+ghost use Rattle.text_terms.specs.Lines.{NumberedLine};
+ghost use Rattle.text_terms.specs.Names as names;
+ghost use Rattle.edt_text.specs.PlacedWords.{placed_words};
+ghost use Rattle.phase_reader.specs.PickFields.{pick_of_words};
+ghost use Rattle.phase_reader.specs.PickFaults.{words_fault};
 ghost use Rattle.phase_reader.specs.PhaseEvents.{passes_limit};
 ghost use Rattle.phase_reader.specs.PhaseFile.{fault_after, picks_of_events};
-ghost use Rattle.phase_reader.specs.Inside.Drafts.{field_words, as_event, Follows};
+ghost use Rattle.phase_reader.specs.Inside.Drafts.{as_event, Follows};
 ghost use Rattle.phase_reader.specs.Limits.{IsPick, IsEvent};
 ghost use Rattle.phase_reader.specs.Inside.DraftLimits.{IsDraft};
 
 use crate::fault::PhaseCause;
-use crate::fields::{Fields, read_fields};
 use crate::kind::{LineKind, kind_of};
 use crate::phases::{Event, Phases, Pick};
 use crate::values::{read_clock, read_date, read_decimal, read_seconds, read_weight, time_at};
-use edt_text::{Name, Words};
+use edt_text::{Name, PlacedWords, Words, is_name};
 use std::alloc::Global;
 use std::mem;
 
@@ -34,7 +30,7 @@ const MOST_PICKS: usize = 4096;
 
 const FARTHEST: u64 = 1_000_000_000_000;
 
-/// What the lines so far say: the events that a blank line ended, the picks behind the last blank line, and how many lines were
+/// What the lines so far say: the events that a blank line ended, the picks after the last blank line, and how many lines were
 /// passed over.
 #[derive(Drop)]
 pub(crate) struct Draft {
@@ -82,10 +78,11 @@ impl Draft {
                 Ok(())
             }
             LineKind::PickLine => {
-                let Some(fields) = read_fields(words) else {
+                let placed = PlacedWords::new(words);
+                if !placed.has(11) {
                     return Err(PhaseCause::Fields);
-                };
-                let pick = read_pick(alloc, number, &fields)?;
+                }
+                let pick = read_pick(alloc, number, &placed)?;
                 self.take_pick(pick)
             }
         }
@@ -124,7 +121,7 @@ impl Draft {
         }
     }
 
-    // Takes a pick behind the others, unless it passes a limit.
+    // Takes a pick after the others, unless it passes a limit.
     fn take_pick(&mut self, pick: Pick) -> Result<(), PhaseCause>
         ensures events { self.new.events ≡ self.old.events }
         ensures passed { self.new.passed ≡ self.old.passed }
@@ -142,7 +139,7 @@ impl Draft {
         }
     }
 
-    // Whether a pick behind the others passes a limit.
+    // Whether a pick after the others passes a limit.
     fn is_past_limit(&self, pick: &Pick) -> bool
         ensures { result ≡ passes_limit (length self.now.events.items) self.now.picks.items pick.now.time }
     {
@@ -156,26 +153,26 @@ impl Draft {
 }
 
 // The pick that the words of a line mean, or the first fault in them.
-fn read_pick(alloc: Global, line: u32, fields: &Fields) -> Result<Pick, PhaseCause>
-    ensures pick { IfOk result (λ pick. pick ≡ pick_of_words line (field_words fields.now)) }
+fn read_pick(alloc: Global, line: u32, words: &PlacedWords) -> Result<Pick, PhaseCause>
+    ensures pick { IfOk result (λ pick. pick ≡ pick_of_words line (placed_words words.now)) }
     ensures limits { IfOk result IsPick }
-    ensures good { OnOk result (words_fault (field_words fields.now) ≡ None) }
-    ensures fault { IfErr result (λ cause. cause ≢ PhaseCause.Memory → words_fault (field_words fields.now) ≡ Some cause) }
+    ensures good { OnOk result (words_fault (placed_words words.now) ≡ None) }
+    ensures fault { IfErr result (λ cause. cause ≢ PhaseCause.Memory → words_fault (placed_words words.now) ≡ Some cause) }
 {
-    let station = read_name(alloc, fields.station)?;
-    let phase = read_name(alloc, fields.phase)?;
-    let Some(day) = read_date(fields.date) else {
+    let station = read_name(alloc, words.at(0))?;
+    let phase = read_name(alloc, words.at(4))?;
+    let Some(day) = read_date(words.at(6)) else {
         return Err(PhaseCause::Date);
     };
-    let Some(clock) = read_clock(fields.clock) else {
+    let Some(clock) = read_clock(words.at(7)) else {
         return Err(PhaseCause::Time);
     };
-    let seconds = read_seconds(fields.seconds)?;
-    if !is_gau(fields.error_type) {
+    let seconds = read_seconds(words.at(8))?;
+    if !is_gau(words.at(9)) {
         return Err(PhaseCause::ErrorType);
     }
-    let error = read_decimal(fields.error)?;
-    let weight = read_weight(fields.weight)?;
+    let error = read_decimal(words.at(10))?;
+    let weight = read_weight(words)?;
     Ok(Pick {
         line,
         station,
@@ -190,33 +187,16 @@ fn read_pick(alloc: Global, line: u32, fields: &Fields) -> Result<Pick, PhaseCau
 // A station or a phase: a name of at most 64 bytes.
 fn read_name(alloc: Global, word: &[u8]) -> Result<Name, PhaseCause>
     ensures name { IfOk result (λ name. name ≡ word.now) }
-    ensures good { OnOk result (IsTrue (is_name 64 word.now)) }
-    ensures fault { IfErr result (λ cause. cause ≢ PhaseCause.Memory → (cause ≡ PhaseCause.Name) × (is_name 64 word.now ≡ false)) }
+    ensures good { OnOk result (IsTrue (names.is_name 64 word.now)) }
+    ensures fault { IfErr result (λ cause. cause ≢ PhaseCause.Memory → (cause ≡ PhaseCause.Name) × (names.is_name 64 word.now ≡ false)) }
 {
-    if !is_short_name(word) {
+    if !is_name(word, 64) {
         return Err(PhaseCause::Name);
     }
-    // such a word is refused for want of memory alone
-    match Name::new(alloc, word) {
+    match Name::of_valid(alloc, word) {
         Ok(name) => Ok(name),
         Err(_) => Err(PhaseCause::Memory),
     }
-}
-
-// Whether a word has 1 to 64 bytes, each from 33 to 126.
-fn is_short_name(word: &[u8]) -> bool
-    ensures { result ≡ is_name 64 word.now }
-{
-    if word.is_empty() {
-        return false;
-    }
-    word.len() <= 64 && has_name_bytes(word)
-}
-
-fn has_name_bytes(word: &[u8]) -> bool
-    ensures { result ≡ list_all is_name_byte word.now }
-{
-    word.iter().all(|b| *b >= 33 && *b <= 126)
 }
 
 // Whether the error type is that of a normal error.

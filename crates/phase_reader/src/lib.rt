@@ -8,7 +8,6 @@
 
 mod draft;
 mod fault;
-mod fields;
 mod kind;
 mod phases;
 mod reading;

@@ -1,13 +1,14 @@
 //! What the words of a pick mean.
-ghost use Rattle.std.specs.Prelude.{◌≡◌, ◌+◌, ◌*◌, ◌<◌, ◌≤◌, ◌^◌, ◌+ℤ◌, ◌*ℤ◌, ◌&&◌, nat_le, if◌then◌else◌, pos, unsigned_abs, length, is_some, IsTrue, IfOk, IfErr, IfSome, IfNone, OnErr, option_copied, false};
+ghost use Rattle.std.specs.Prelude.{◌≡◌, ◌+◌, ◌*◌, ◌<◌, ◌≤◌, ◌^◌, ◌+ℤ◌, ◌*ℤ◌, ◌&&◌, nat_le, if◌then◌else◌, pos, unsigned_abs, length, is_some, IsTrue, IfOk, IfErr, IfSome, IfNone, OnErr, slice_get, false};
 ghost use Rattle.std.specs.Option.{option_map};
-ghost use Rattle.std.specs.Result.{result_ok};
 ghost use Rattle.fixed_decimal.specs.Value.{millionths_of};
+ghost use Rattle.edt_text.specs.PlacedWords.{placed_words};
 ghost use Rattle.phase_reader.specs.PickFields.{digits_of, date_of, clock_of, clock_microseconds, is_date, is_clock, is_seconds, weight_of};
 ghost use Rattle.phase_reader.specs.PickFaults.{seconds_fault, is_weight};
 ghost use Rattle.phase_reader.specs.Inside.PickDays.{civil_day, IsPickDay};
 
 use crate::fault::PhaseCause;
+use edt_text::{PlacedWords, digits_within};
 use fixed_decimal::read_millionths;
 use jiff::civil::Date;
 
@@ -119,18 +120,19 @@ pub(crate) fn read_decimal(word: &[u8]) -> Result<i64, PhaseCause>
     }
 }
 
-/// A prior weight in thousandths, cut downwards, and 1000 without a word. Where the word is no decimal it is `Number`.
-pub(crate) fn read_weight(word: Option<&[u8]>) -> Result<i64, PhaseCause>
-    ensures value { IfOk result (λ weight. weight ≡ weight_of (option_copied word.entry)) }
+/// The prior weight of a line's words in thousandths, cut downwards, and 1000 without such a word. Where the word is no decimal it
+/// is `Number`.
+pub(crate) fn read_weight(words: &PlacedWords) -> Result<i64, PhaseCause>
+    ensures value { IfOk result (λ weight. weight ≡ weight_of (slice_get (placed_words words.now) 14)) }
     ensures small { IfOk result (λ weight. unsigned_abs weight ≤ 10 ^ 12) }
-    ensures good { IfOk result (λ _. IsTrue (is_weight (option_copied word.entry))) }
-    ensures bad { OnErr result (is_weight (option_copied word.entry) ≡ false) }
+    ensures good { IfOk result (λ _. IsTrue (is_weight (slice_get (placed_words words.now) 14))) }
+    ensures bad { OnErr result (is_weight (slice_get (placed_words words.now) 14) ≡ false) }
     ensures fault { IfErr result (λ cause. cause ≡ PhaseCause.Number) }
 {
-    match word {
-        None => Ok(1000),
-        Some(word) => thousandths(word),
+    if !words.has(15) {
+        return Ok(1000);
     }
+    thousandths(words.at(14))
 }
 
 // A decimal in thousandths, cut downwards.
@@ -154,12 +156,6 @@ fn read_digits(word: &[u8], count: usize) -> Option<u32>
     if word.len() != count {
         return None;
     }
-    let mut value: u32 = 0;
-    for byte in word {
-        if !byte.is_ascii_digit() {
-            return None;
-        }
-        value = 10 * value + u32::from(*byte - b'0');
-    }
-    Some(value)
+    let value = digits_within(word, 99_999_999)?;
+    Some(value as u32)
 }

@@ -2,11 +2,12 @@
 use Rattle.std.proofs.Common.{◌≡◌, ◌≢◌, ℕ, List, [], ◌∷◌, length, count_by, Option, Some, None, IfSome, unwrap_or, true, false, sym, ◌∙◌, ap}
 use Rattle.std.specs.Option.{option_map}
 use Rattle.std.specs.Global.{Vec}
+use Rattle.text_terms.specs.Lines.{NumberedLine, numbered_lines}
 use Rattle.edt_outside.specs.Shelves.{Files}
 use Rattle.phase_reader.specs.declared.fault.PhaseCause.TheVariants.{Memory}
 use Rattle.phase_reader.specs.declared.fault.PhaseFault.{PhaseFault}
 use Rattle.phase_reader.specs.declared.phases.Phases.{Phases}
-use Rattle.phase_reader.specs.LineKinds.{NumberedLine, numbered_lines, is_passed}
+use Rattle.phase_reader.specs.LineKinds.{is_passed}
 use Rattle.phase_reader.specs.PhaseEvents.{events_of}
 use Rattle.phase_reader.specs.PhaseFile.{IsReading, IsPhaseFault, fault_at}
 use Rattle.run_input.specs.declared.refusals.Refusal.{Refusal}

@@ -1,12 +1,13 @@
 -- What the files under some names say: bytes, lines, control values and events.
 use Rattle.std.specs.Prelude.{ℕ, Bool, List, [], map, count_by, unwrap_or, codes}
+use Rattle.text_terms.specs.Lines.{numbered_lines}
 use Rattle.edt_outside.specs.Shelves.{Files}
 use Rattle.control_reader.specs.ControlLines.{ControlLine, control_lines, file_lines, statements_with}
 use Rattle.control_reader.specs.ControlValues.{ControlValues}
 use Rattle.control_reader.specs.Values.{include_of}
 use Rattle.control_reader.specs.ValuesOfLines.{values_in}
 use Rattle.phase_reader.specs.declared.phases.Pick.{Pick}
-use Rattle.phase_reader.specs.LineKinds.{numbered_lines, is_passed}
+use Rattle.phase_reader.specs.LineKinds.{is_passed}
 use Rattle.phase_reader.specs.PhaseEvents.{events_of}
 use Rattle.event_assembly.specs.Assembling.{lacks_a_wanted_header}
 

@@ -2,13 +2,13 @@
 use Rattle.std.specs.Prelude.{ℕ, ◌+◌, ◌++◌, nat_lt, if◌then◌else◌, is_some, List, [], ◌∷◌, length, map, Option, Some, None, slice_get}
 use Rattle.std.specs.List.{enumerate_from, find, range_with_len}
 use Rattle.std.specs.Option.{option_map, option_and_then}
+use Rattle.text_terms.specs.Lines.{NumberedLine, numbered_lines}
 use Rattle.edt_outside.specs.Shelves.{Files}
 use Rattle.control_reader.specs.declared.fault.ControlCause.{ControlCause}
 use Rattle.control_reader.specs.ControlFile.{fault_at as control_fault_at, line_place}
 use Rattle.control_reader.specs.ControlLines.{ControlLine, file_lines}
 use Rattle.control_reader.specs.Includes.{name_fault_at}
 use Rattle.phase_reader.specs.declared.fault.PhaseCause.{PhaseCause}
-use Rattle.phase_reader.specs.LineKinds.{NumberedLine, numbered_lines}
 use Rattle.phase_reader.specs.PhaseFile.{fault_at as phase_fault_at}
 use Rattle.run_input.specs.declared.refusals.Refusal.{Refusal}
 use Rattle.run_input.specs.FilesUnder.{bytes_under, include_names, lines_under}

@@ -3,7 +3,7 @@ use Rattle.std.specs.Prelude.{min, ◌+◌, ◌≤◌, length, All}
 use Rattle.phase_reader.specs.declared.draft.Draft.{Draft}
 use Rattle.phase_reader.specs.Limits.{IsPick, IsEvent, AreNearFirst}
 
--- the events of a draft are within their limits, and so are the picks behind the last blank line
+-- the events of a draft are within their limits, and so are the picks after the last blank line
 pub record IsDraft (draft : Draft) : Type 0 where
   pub count : length draft.events.items + min 1 (length draft.picks.items) ≤ 10000
   pub events : All IsEvent draft.events.items

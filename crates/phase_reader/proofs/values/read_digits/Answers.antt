@@ -1,15 +1,10 @@
-use Rattle.std.proofs.Common.{◌<◌, arith}
-use Rattle.std.proofs.lemmas.Grind.{common_steps}
-use Rattle.phase_reader.proofs.DigitLaws.{eight_small}
+use Rattle.std.proofs.Common.{sym, ◌∙◌}
+use Rattle.phase_reader.proofs.DigitLaws.{read_within, read_small}
 use Rattle.phase_reader.proofs.values.read_digits.Goals as goal
 
-pub overflow_mul-value : goal.overflow_mul-value
-overflow_mul-value c =
-    let room = eight_small c.loop-byte.value c.loop-byte.byte-index c.loop-byte.invariant.small (omega arith) in
-    omega (arith, room)
+pub returns-in_err-value-clause-value : goal.returns-in_err-value-clause-value
+returns-in_err-value-clause-value c =
+    c.from_residual.ensures ∙ c.in_err-value.ensures ∙ read_within c.args.word.now c.args.count c.if-word-count.false c.requires
 
-pub overflow_add-value : goal.overflow_add-value
-overflow_add-value c =
-    let room = eight_small c.loop-byte.value c.loop-byte.byte-index c.loop-byte.invariant.small (omega arith) in
-    let digit : c.from.result < 10 = grind (arith, common_steps) in
-    omega (arith, room, digit)
+pub returns-clause-bound : goal.returns-clause-bound
+returns-clause-bound c = read_small c.args.word.now c.in_ok-value.value c.args.count c.if-word-count.false (sym c.in_ok-value.ensures)

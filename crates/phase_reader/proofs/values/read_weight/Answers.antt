@@ -1,5 +1,17 @@
-use Rattle.phase_reader.proofs.DateLaws.{weight_none}
+use Rattle.std.proofs.Common.{◌≤◌, length, refl, sym, ◌∙◌, arith}
+use Rattle.std.proofs.lemmas.Option.{slice_get_past}
+use Rattle.std.proofs.lemmas.Grind.{common_steps}
+use Rattle.edt_text.specs.PlacedWords.{placed_words}
+use Rattle.phase_reader.specs.PickFields.{weight_of}
 use Rattle.phase_reader.proofs.values.read_weight.Goals as goal
 
-pub returns-in-None-clause-value : goal.returns-in-None-clause-value
-returns-in-None-clause-value c = rw c.in-None.is weight_none
+pub returns-then-not-has-clause-value : goal.returns-then-not-has-clause-value
+unfolding weight_of
+returns-then-not-has-clause-value c =
+    let few : length (placed_words c.args.words.now) ≤ 14 = grind (arith, common_steps) in
+    rw (slice_get_past (placed_words c.args.words.now) 14 few) refl
+
+pub returns-then-not-has-clause-good : goal.returns-then-not-has-clause-good
+returns-then-not-has-clause-good c =
+    let few : length (placed_words c.args.words.now) ≤ 14 = grind (arith, common_steps) in
+    rw (slice_get_past (placed_words c.args.words.now) 14 few) refl

@@ -2,33 +2,30 @@ use Rattle.std.proofs.Common.{◌≡◌, Some, length, refl, sym, ◌∙◌, ap}
 use Rattle.std.specs.Prelude.{map}
 use Rattle.std.proofs.lemmas.Result.{err_from_is_err_and, on_ok_weaker, IfErr-weaker}
 use Rattle.edt_text.specs.WordCursor.{words_left}
-use Rattle.text_terms.specs.Words.{words_of}
+use Rattle.text_terms.specs.Lines.{NumberedLine}
 use Rattle.phase_reader.specs.declared.kind.LineKind.TheVariants.{Blank, Comment, PublicId, PickLine}
 use Rattle.phase_reader.specs.declared.phases.Pick.{Pick}
-use Rattle.phase_reader.specs.LineKinds.{NumberedLine}
-use Rattle.phase_reader.specs.PickWords.{pick_words}
 use Rattle.phase_reader.specs.PickFields.{pick_of, pick_of_words}
 use Rattle.phase_reader.specs.PickFaults.{words_fault}
 use Rattle.phase_reader.specs.PhaseEvents.{event_lines, open_lines, passes_limit}
-use Rattle.phase_reader.specs.Inside.Drafts.{field_words}
 use Rattle.phase_reader.proofs.ListLaws.{ok_is, both_ok}
 use Rattle.phase_reader.proofs.DraftSteps.{follows_blank, follows_comment, follows_passed, follows_pick, limit_follows}
 use Rattle.phase_reader.proofs.FaultSteps.{kind_by_words, fault_kind, fault_few, fault_words, fault_limit, fault_none}
 use Rattle.phase_reader.proofs.draft.Draft.take_line.Goals as goal
 
-pub returns-in_default-clause-fault : goal.returns-in_default-clause-fault
-returns-in_default-clause-fault c =
+pub returns-then-not-has-clause-fault : goal.returns-then-not-has-clause-fault
+returns-then-not-has-clause-fault c =
     let line : NumberedLine = (c.args.number, c.args.line.now) in
     let kind = kind_by_words line (words_left c.new-words.result) PickLine c.new-words.ensures c.in-PickLine.ensures in
-    let few = rw c.new-words.ensures at c.in_default.ensures.few in
+    let few = rw (c.new-placed.ensures ∙ c.new-words.ensures) at (sym c.has.ensures ∙ c.if-not-has.true) in
     λ other before follows. fault_kind before line PickLine c.if-line-gt-LONGEST_LINE.false kind ∙ fault_few before line few
 
 pub returns-in_err-pick-in-PickLine-clause-fault : goal.returns-in_err-pick-in-PickLine-clause-fault
 returns-in_err-pick-in-PickLine-clause-fault c =
     let line : NumberedLine = (c.args.number, c.args.line.now) in
     let kind = kind_by_words line (words_left c.new-words.result) PickLine c.new-words.ensures c.in-PickLine.ensures in
-    let enough = rw c.new-words.ensures at c.in-Some.ensures.enough in
-    let same : field_words c.in-Some.fields ≡ pick_words (words_of c.args.line.now) = c.in-Some.ensures.fields ∙ ap pick_words c.new-words.ensures in
+    let same = c.new-placed.ensures ∙ c.new-words.ensures in
+    let enough = rw same at (sym c.has.ensures ∙ c.if-not-has.false) in
     let out = err_from_is_err_and c.from_residual.result c.from_residual.ensures.1 in
     rw (out.1, out.2)
     (λ other before follows.
@@ -76,7 +73,7 @@ pub returns-in_ok-pick-in-PickLine-clause-follows : goal.returns-in_ok-pick-in-P
 returns-in_ok-pick-in-PickLine-clause-follows c =
     let line : NumberedLine = (c.args.number, c.args.line.now) in
     let kind = kind_by_words line (words_left c.new-words.result) PickLine c.new-words.ensures c.in-PickLine.ensures in
-    let same : field_words c.in-Some.fields ≡ pick_words (words_of c.args.line.now) = c.in-Some.ensures.fields ∙ ap pick_words c.new-words.ensures in
+    let same = c.new-placed.ensures ∙ c.new-words.ensures in
     let means : c.in_ok-pick-in-PickLine.pick ≡ pick_of line = c.in_ok-pick-in-PickLine.ensures.pick ∙ ap (pick_of_words c.args.number) same in
     on_ok_weaker c.take_pick.result
     (λ more before follows.
@@ -88,8 +85,8 @@ pub returns-in_ok-pick-in-PickLine-clause-good : goal.returns-in_ok-pick-in-Pick
 returns-in_ok-pick-in-PickLine-clause-good c =
     let line : NumberedLine = (c.args.number, c.args.line.now) in
     let kind = kind_by_words line (words_left c.new-words.result) PickLine c.new-words.ensures c.in-PickLine.ensures in
-    let enough = rw c.new-words.ensures at c.in-Some.ensures.enough in
-    let same : field_words c.in-Some.fields ≡ pick_words (words_of c.args.line.now) = c.in-Some.ensures.fields ∙ ap pick_words c.new-words.ensures in
+    let same = c.new-placed.ensures ∙ c.new-words.ensures in
+    let enough = rw same at (sym c.has.ensures ∙ c.if-not-has.false) in
     let means : c.in_ok-pick-in-PickLine.pick ≡ pick_of line = c.in_ok-pick-in-PickLine.ensures.pick ∙ ap (pick_of_words c.args.number) same in
     on_ok_weaker c.take_pick.result
     (λ good before follows.
@@ -103,8 +100,8 @@ pub returns-in_ok-pick-in-PickLine-clause-fault : goal.returns-in_ok-pick-in-Pic
 returns-in_ok-pick-in-PickLine-clause-fault c =
     let line : NumberedLine = (c.args.number, c.args.line.now) in
     let kind = kind_by_words line (words_left c.new-words.result) PickLine c.new-words.ensures c.in-PickLine.ensures in
-    let enough = rw c.new-words.ensures at c.in-Some.ensures.enough in
-    let same : field_words c.in-Some.fields ≡ pick_words (words_of c.args.line.now) = c.in-Some.ensures.fields ∙ ap pick_words c.new-words.ensures in
+    let same = c.new-placed.ensures ∙ c.new-words.ensures in
+    let enough = rw same at (sym c.has.ensures ∙ c.if-not-has.false) in
     let means : c.in_ok-pick-in-PickLine.pick ≡ pick_of line = c.in_ok-pick-in-PickLine.ensures.pick ∙ ap (pick_of_words c.args.number) same in
     IfErr-weaker c.take_pick.result _ _
     (λ cause fault other before follows.
