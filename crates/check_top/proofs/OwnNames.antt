@@ -1,15 +1,18 @@
 -- The picks of an event have names.
-use Rattle.std.proofs.Common.{◌≡◌, ℕ, ◌<◌, ◌≤◌, ◌^◌, Bool, true, inl, inr, List, [], ◌∷◌, length, map, take, drop, get_or, Option, Some, None, IfSome, All, IsTrue, refl, arith}
+use Rattle.std.proofs.Common.{◌≡◌, ℕ, ◌<◌, ◌≤◌, ◌^◌, Bool, true, inl, inr, List, [], ◌∷◌, length, take, drop, get_or, Option, Some, None, IfSome, All, IsTrue, refl, arith}
 use Rattle.std.specs.Prelude.{◌&&◌, nat_le, unwrap_or}
 use Rattle.std.specs.List.{find, flat_map, list_all, range_with_len}
 use Rattle.std.specs.Option.{option_map}
 use Rattle.std.specs.Str.{bytes_eq}
 use Rattle.std.proofs.lemmas.Bool.Decides.{nat_tests}
 use Rattle.std.proofs.lemmas.List.{length-append, length-map}
-use Rattle.std.proofs.lemmas.List.Elements.{All-append, All-cons, All-drop, All-head, All-map, All-nil, All-tail, All-take}
+use Rattle.std.proofs.lemmas.List.Elements.{All-cons, All-head, All-nil, All-tail}
 use Rattle.std.proofs.lemmas.List.FromFn.{length-range_with_len}
 use Rattle.text_terms.specs.Names.{is_name, is_name_byte}
+use Rattle.text_terms.specs.Prefixes.{with_those_before, with_those_before_at}
 use Rattle.text_terms.proofs.Cases.{by_bool}
+use Rattle.text_terms.proofs.ListLaws.{All-flat_map}
+use Rattle.text_terms.proofs.PrefixLaws.{with_before}
 use Rattle.control_reader.specs.declared.control.Alias.{Alias}
 use Rattle.control_reader.specs.declared.control.Control.{Control}
 use Rattle.control_reader.specs.declared.control.PhaseId.{PhaseId}
@@ -24,7 +27,7 @@ use Rattle.station_table.specs.declared.picks.Reason.{Reason}
 use Rattle.station_table.specs.declared.picks.Skip.{Skip}
 use Rattle.station_table.specs.declared.picks.UsedPick.{UsedPick}
 use Rattle.station_table.specs.Stations.{is_alias_of, phase_of, station_of}
-use Rattle.station_table.specs.Using.{if_skipped, if_used, reason_of, skip, skipped_picks, used_pick, used_pick_at, used_picks, with_those_before}
+use Rattle.station_table.specs.Using.{if_skipped, if_used, reason_of, skip, skipped_picks, used_pick, used_pick_at, used_picks}
 use Rattle.event_assembly.specs.AssemblyValues.{EventValues, event_of}
 use Rattle.location_report.specs.BlockForms.{has_names, skip_has_names}
 
@@ -57,43 +60,25 @@ found_name : {A : Type 0} (P : A → Type 0) (name : A → List ℕ) → ((a : A
 found_name P name named None own is good = good
 found_name P name named (Some a) own is good = named a is
 
--- what holds of each item of each list holds of each item of all
-all_flat : {A B : Type 0} (P : B → Type 0) (f : A → List B) (xs : List A) → All (λ x. All P (f x)) xs → All P (flat_map f xs)
-all_flat P f [] all = All-nil P
-all_flat P f (x ∷ xs) all =
-    All-append P (f x) (flat_map f xs) (All-head (λ y. All P (f y)) x xs all) (all_flat P f xs (All-tail (λ y. All P (f y)) x xs all))
-
 -- lists of at most one item each
 few_flat : {A B : Type 0} (f : A → List B) (xs : List A) → ((x : A) → length (f x) ≤ 1) → length (flat_map f xs) ≤ length xs
 few_flat f [] one = omega arith
 few_flat f (x ∷ xs) one = omega (arith, length-append (f x) (flat_map f xs), one x, few_flat f xs one)
 
--- the pick at a place, with those before it
-abbrev at_place : List Pick → ℕ → List (List Pick × Pick)
-at_place picks k = map (λ (pick : Pick). (take k picks, pick)) (take 1 (drop k picks))
-
--- what holds of each pick holds of each with those before it
-with_before : (Q : Pick → Type 0) (picks : List Pick) → All Q picks → All (λ (p : List Pick × Pick). Q p.1) (with_those_before picks)
-with_before Q picks all =
-    let places : List ℕ = range_with_len 0 (length picks) in
-    let P : List Pick × Pick → Type 0 = λ p. Q p.1 in
-    all_flat P (at_place picks) places
-    (λ i d below. All-map P (λ (pick : Pick). (take (get_or places i d) picks, pick)) (take 1 (drop (get_or places i d) picks))
-    (All-take Q 1 (drop (get_or places i d) picks) (All-drop Q (get_or places i d) picks all)))
-
+-- each pick stands once with those before it
 few_before : (picks : List Pick) → length (with_those_before picks) ≤ length picks
 few_before picks =
     let few : length (with_those_before picks) ≤ length (range_with_len 0 (length picks)) =
-    few_flat (at_place picks) (range_with_len 0 (length picks)) (one_at picks) in
+    few_flat (with_those_before_at picks) (range_with_len 0 (length picks)) (one_at picks) in
     omega (arith, few, length-range_with_len 0 (length picks))
   where
     first_few : (xs : List Pick) → length (take 1 xs) ≤ 1
     first_few [] = omega arith
     first_few (x ∷ xs) = omega arith
 
-    one_at : (picks : List Pick) (k : ℕ) → length (at_place picks k) ≤ 1
+    one_at : (picks : List Pick) (k : ℕ) → length (with_those_before_at picks k) ≤ 1
     one_at picks k =
-        let same : length (at_place picks k) ≡ length (take 1 (drop k picks)) =
+        let same : length (with_those_before_at picks k) ≡ length (take 1 (drop k picks)) =
         length-map (take 1 (drop k picks)) (λ (pick : Pick). (take k picks, pick)) in
         omega (arith, same, first_few (drop k picks))
 
@@ -143,7 +128,7 @@ module _ (control : Control) (limits : IsControl control) (keys : List GridKey) 
       let each : List Pick × Pick → List UsedPick = λ p. if_used (values_of control) keys p.1 (reason_of (values_of control) keys places p.0 p.1) in
       let named : (p : List Pick × Pick) → IsPick p.1 → All IsUseNamed (each p) = λ p is. one_used p.1 is (reason_of (values_of control) keys places p.0 p.1) in
       let picks_all = with_before IsPick picks all in
-      all_flat IsUseNamed each (with_those_before picks) (λ i d below. named (get_or (with_those_before picks) i d) (picks_all i d below))
+      All-flat_map IsUseNamed each (with_those_before picks) (λ i d below. named (get_or (with_those_before picks) i d) (picks_all i d below))
 
   used_few : (picks : List Pick) → length (used_picks (values_of control) keys places picks) ≤ length picks
   unfolding used_picks
@@ -172,7 +157,7 @@ module _ (control : Control) (limits : IsControl control) (keys : List GridKey) 
       let each : List Pick × Pick → List Skip = λ p. if_skipped (values_of control) p.1 (reason_of (values_of control) keys places p.0 p.1) in
       let named : (p : List Pick × Pick) → IsPick p.1 → All IsSkipNamed (each p) = λ p is. one_skipped p.1 is (reason_of (values_of control) keys places p.0 p.1) in
       let picks_all = with_before IsPick picks all in
-      all_flat IsSkipNamed each (with_those_before picks) (λ i d below. named (get_or (with_those_before picks) i d) (picks_all i d below))
+      All-flat_map IsSkipNamed each (with_those_before picks) (λ i d below. named (get_or (with_those_before picks) i d) (picks_all i d below))
 
   skipped_few : (picks : List Pick) → length (skipped_picks (values_of control) keys places picks) ≤ length picks
   unfolding skipped_picks

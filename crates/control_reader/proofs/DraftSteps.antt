@@ -15,7 +15,8 @@ use Rattle.control_reader.specs.declared.statement.LineKind.TheVariants.{Blank, 
 use Rattle.control_reader.specs.Keywords.{keyword_of, is_not_yet}
 use Rattle.control_reader.specs.ControlLines.{ControlLine, kind_of, has_keyword, is_include, arguments_of, statement_with, statements_with}
 use Rattle.control_reader.specs.Values.{files_of, frame_of, method_of, sigma_of, cells_of, phase_ids_of, exclude_of, delay_of, alias_of, seed_of, count_of, shape_of}
-use Rattle.control_reader.specs.WordFaults.{first_cause, unless, words_fault}
+use Rattle.text_terms.specs.Faults.{first_cause, unless}
+use Rattle.control_reader.specs.WordFaults.{words_fault}
 use Rattle.control_reader.specs.ControlFile.{is_repeated, is_passed, is_passed_kind, statement_fault, kind_fault, fault_after}
 use Rattle.control_reader.specs.Inside.Said.{Said, said_in}
 use Rattle.control_reader.specs.Inside.NextStatement.{with_statement, with_kind, with_line}
@@ -47,7 +48,7 @@ list_more p (x ∷ lines) line =
       | inr later ↦ rw later rest
     ]
 
-count_more : (p : ControlLine → Bool) (lines : List ControlLine) (line : ControlLine)
+pub count_more : (p : ControlLine → Bool) (lines : List ControlLine) (line : ControlLine)
     → count_by p (lines ++ line ∷ []) ≡ (if p line then count_by p lines + 1 else count_by p lines)
 count_more p lines line = elim (by_bool (p line)) [
   | inl has ↦ rw has (grind (arith, common_steps))

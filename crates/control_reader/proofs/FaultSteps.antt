@@ -10,7 +10,7 @@ use Rattle.control_reader.specs.ControlLines.{ControlLine}
 use Rattle.control_reader.specs.ControlFile.{fault_after, fault_at, missing_fault, IsFaultOf}
 use Rattle.control_reader.proofs.ListLaws.{get_front, get_next}
 
--- the fault at a place of a front, and at the place behind it
+-- the fault at a place of a front, and at the place after it
 fault_at_front : (front rest : List ControlLine) (j : ℕ) → j < length front → fault_at (front ++ rest) j ≡ fault_at front j
 unfolding fault_at
 fault_at_front front rest j less =
@@ -41,7 +41,7 @@ clean_more front line clean good = λ j less. elim (less_or_not j (length front)
       rw is (fault_at_next front [] line ∙ good)
 ]
 
--- the first faulty line behind lines without a fault
+-- the first faulty line after lines without a fault
 pub fault_of_next : (front rest : List ControlLine) (line : ControlLine) (fault : ControlFault) → NoFaultBelow (fault_at front) (length front)
     → fault_after front line ≡ Some fault.cause → fault.file ≡ line.file → fault.line ≡ line.number → IsFaultOf (front ++ line ∷ rest) fault
 fault_of_next front rest line fault clean is file number = record {
@@ -54,7 +54,7 @@ fault_of_next front rest line fault clean is file number = record {
   };
 }
 
--- behind the last line stands what the whole file lacks
+-- after the last line stands what the whole file lacks
 fault_at_end : (lines : List ControlLine) → fault_at lines (length lines) ≡ missing_fault lines
 unfolding fault_at
 fault_at_end lines = rw (slice_get_past lines (length lines) (omega arith)) refl

@@ -6,7 +6,8 @@ use Rattle.std.proofs.lemmas.Int.{ints}
 use Rattle.text_terms.proofs.Cases.{by_bool}
 use Rattle.node_boxes.specs.Grid.{IsGrid, grid_size}
 use Rattle.control_reader.specs.declared.fault.ControlCause.TheVariants.{Limit}
-use Rattle.control_reader.specs.Words.{word_at, count_at}
+use Rattle.text_terms.specs.Words.{word_at}
+use Rattle.control_reader.specs.Words.{count_at}
 use Rattle.control_reader.specs.WordFaults.{axis_fault, frame_fault}
 
 -- a number from 1 to 4096, without its sign

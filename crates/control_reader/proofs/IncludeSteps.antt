@@ -38,7 +38,7 @@ same_name_fault before names line follows = elim (by_bool (is_include line)) [
   | inr lacks ↦ rw lacks refl
 ]
 
--- the fault at a place of a front, and at the place behind it
+-- the fault at a place of a front, and at the place after it
 name_fault_front : (front rest : List ControlLine) (j : ℕ) → j < length front → name_fault_at (front ++ rest) j ≡ name_fault_at front j
 unfolding name_fault_at
 name_fault_front front rest j less =

@@ -29,7 +29,7 @@ entry_here items k d within =
     drop-map entry k items ∙ ap (map entry) (drop-cons items k d within)
     ∙ ap (λ xs. entry (get_or items k d) ∷ xs) (sym (drop-map entry (suc k) items))
 
--- the entry at a place has the word, or the entries behind it have it
+-- the entry at a place has the word, or the entries after it have it
 pub entry_found : {items : Items} {word : List ℕ} {k : ℕ} (d : Bor (List ℕ) × Statement) → Searched items word k → k < length items
     → bytes_eq word (get_or items k d).0.now ≡ true → Some (get_or items k d).1 ≡ statement_of word
 entry_found {items} {word} {k} d searched within same =

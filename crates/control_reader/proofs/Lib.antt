@@ -11,6 +11,5 @@ mod CompletionSteps
 pub mod ValueSteps
 mod NameSteps
 mod IncludeSteps
-mod TakenWords
 mod GridLimits
 mod PhaseIdSteps

@@ -1,10 +1,10 @@
--- Places in lists that are put together, and ranges of numbers.
+-- Places in lists that are put together.
 use Rattle.std.proofs.Common.{◌≡◌, ℕ, zero, suc, ◌+◌, ◌<◌, ◌≤◌, Bool, List, [], ◌∷◌, ◌++◌, length, take, drop, get_or, Some, refl, ◌∙◌, ap, arith}
 use Rattle.std.specs.Prelude.{map, count_by}
 use Rattle.std.specs.Option.{option_map}
 use Rattle.std.proofs.lemmas.Option.{slice_get-map, slice_get_read}
 use Rattle.std.proofs.lemmas.List.{take-append-drop}
-use Rattle.std.specs.List.{slice_get, range_with_len, slice_split}
+use Rattle.std.specs.List.{slice_get, slice_split}
 use Rattle.std.proofs.lemmas.Grind.{common_steps}
 use Rattle.std.proofs.lemmas.List.Splits.{length-slice_split}
 use Rattle.std.proofs.lemmas.List.Sums.{count_by-le-length}
@@ -47,20 +47,6 @@ pub drop_none : {A : Type 0} (k : ℕ) (xs : List A) → drop k xs ≡ [] → le
 drop_none k [] e = omega arith
 drop_none zero (x ∷ xs) e = absurd cc
 drop_none (suc k) (x ∷ xs) e = omega (arith, drop_none k xs e)
-
--- one more number behind a range, and a range that is cut at a number
-pub range_more : (a n j : ℕ) → a + n ≡ j → range_with_len a (suc n) ≡ range_with_len a n ++ j ∷ []
-range_more a zero j e = let f : a ≡ j = omega (arith, e) in rw f refl
-range_more a (suc n) j e = ap (λ xs. a ∷ xs) (range_more (a + 1) n j (omega (arith, e)))
-
-pub range_cut : (a k m j : ℕ) → a + k ≡ j → range_with_len a (k + suc m) ≡ range_with_len a k ++ j ∷ range_with_len (j + 1) m
-range_cut a zero m j e =
-    let sum : 0 + suc m ≡ suc m = omega arith in
-    let f : a ≡ j = omega (arith, e) in
-    rw (sum, f) refl
-range_cut a (suc k) m j e =
-    let sum : suc k + suc m ≡ suc (k + suc m) = omega arith in
-    rw sum (ap (λ xs. a ∷ xs) (range_cut (a + 1) k m j (omega (arith, e))))
 
 -- a file has at most one line more than bytes
 few_last : (part : List ℕ) → length (lines_of_parts (part ∷ [])) ≤ 1

@@ -43,7 +43,7 @@ name_long before line is long =
     let over : nat_le (length line.bytes) 4096 ≡ false = grind (arith, common_steps) in
     rw (is, over) refl
 
--- a line that includes a file and isn't too long, and the words behind its keyword
+-- a line that includes a file and isn't too long, and the words after its keyword
 pub record IsIncludeLine (line : ControlLine) (words : List (List ℕ)) : Type 0 where
   pub is : is_include line ≡ true
   pub short : length line.bytes ≤ 4096
@@ -101,7 +101,7 @@ names_more line words before after include is =
     let same = include.same in
     rw (includes, ← same) is
 
--- what was read stands behind the others
+-- what was read stands after the others
 pub pushed_value : {T U : Type 0} (read : Result T ControlCause) (before after : List T) (done : U) (value : T) → Pushes read before after (Ok done)
     → IfOk read (λ x. x ≡ value) → after ≡ before ++ value ∷ []
 pushed_value (Ok x) before after done value pushes is = pushes.0 ∙ ap (λ y. before ++ y ∷ []) is

@@ -1,4 +1,4 @@
--- The phase words behind a standard phase, one after another.
+-- The phase words after a standard phase, one after another.
 use Rattle.std.proofs.Common.{◌≡◌, ℕ, ◌≤◌, Bool, true, false, List, [], ◌∷◌, ◌++◌, length, map, drop, All, Some, None, inl, inr, refl, sym, ◌∙◌, ap, arith}
 use Rattle.std.specs.Prelude.{◌&&◌}
 use Rattle.std.specs.List.{list_all}
@@ -10,7 +10,7 @@ use Rattle.control_reader.specs.declared.control.PhaseId.{PhaseId}
 use Rattle.control_reader.specs.declared.fault.ControlCause.{ControlCause}
 use Rattle.control_reader.specs.declared.fault.ControlCause.TheVariants.{Name}
 use Rattle.control_reader.specs.Limits.{IsPhaseId}
-use Rattle.control_reader.specs.Words.{word_at}
+use Rattle.text_terms.specs.Words.{word_at}
 use Rattle.control_reader.specs.Values.{phase_ids_of}
 use Rattle.control_reader.specs.WordFaults.{name_fault, phase_ids_fault}
 
@@ -22,7 +22,7 @@ id_of standard code = record { standard = standard; code = code }
 abbrev pub are_names : List (List ℕ) → Bool
 are_names words = list_all (is_name 64) words
 
--- one more entry behind those before
+-- one more entry after those before
 pub one_more : (standard code : List ℕ) (left rest : List (List ℕ)) (ids now all : List PhaseId) → left ≡ code ∷ rest
     → now ≡ ids ++ id_of standard code ∷ [] → ids ++ map (id_of standard) left ≡ all → now ++ map (id_of standard) rest ≡ all
 one_more standard code left rest ids now all e pushed value =
@@ -34,7 +34,7 @@ one_more standard code left rest ids now all e pushed value =
 pub one_more_good : (ids now : List PhaseId) (id : PhaseId) → now ≡ ids ++ id ∷ [] → All IsPhaseId ids → IsPhaseId id → All IsPhaseId now
 one_more_good ids now id pushed all good = rw pushed (All-push IsPhaseId ids id all good)
 
--- no entry is left behind the last word
+-- no entry is left after the last word
 pub no_more : (words left : List (List ℕ)) (ids before : List PhaseId) → left ≡ []
     → ids ++ map (id_of (word_at 0 words)) left ≡ before ++ map (id_of (word_at 0 words)) (drop 1 words) → ids ≡ before ++ phase_ids_of words
 unfolding phase_ids_of
@@ -49,7 +49,7 @@ name_passes code left rest e good = rw (e, good) refl
 pub name_fails : (code : List ℕ) (left rest : List (List ℕ)) → left ≡ code ∷ rest → is_name 64 code ≡ false → are_names left ≡ false
 name_fails code left rest e bad = rw (e, bad) refl
 
--- the first word and those behind it
+-- the first word and those after it
 first_and_rest : (words : List (List ℕ)) → 2 ≤ length words → are_names words ≡ (is_name 64 (word_at 0 words) && are_names (drop 1 words))
 first_and_rest [] many = absurd (omega arith)
 first_and_rest (w ∷ ws) many = refl
@@ -66,7 +66,7 @@ first_fault words cause many fault = elim (by_bool (is_name 64 (word_at 0 words)
       rw none (sym here ∙ fault)
 ]
 
--- so is that of a word behind it
+-- so is that of a word after it
 
 pub code_fault : (words : List (List ℕ)) → 2 ≤ length words → is_name 64 (word_at 0 words) ≡ true → are_names (drop 1 words) ≡ false
     → phase_ids_fault words ≡ Some Name

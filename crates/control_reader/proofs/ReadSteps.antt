@@ -1,12 +1,13 @@
--- A main control file, read line by line, with the lines of each included file behind its line.
+-- A main control file, read line by line, with the lines of each included file after its line.
 use Rattle.std.proofs.Common.{◌≡◌, ℕ, suc, ◌+◌, ◌-◌, ◌*◌, ◌<◌, ◌≤◌, Bool, true, false, List, [], ◌∷◌, ◌++◌, length, take, drop, Some, inl, inr, refl, sym, ◌∙◌, ap, arith, append_assoc}
 use Rattle.std.specs.Prelude.{count_by, slice_get, if◌then◌else◌}
-use Rattle.std.specs.List.{flat_map, range_with_len}
-use Rattle.std.proofs.Math.Seq.{drop-append_seam}
-use Rattle.std.proofs.lemmas.List.{append-nil}
-use Rattle.std.proofs.lemmas.Grind.{common_steps, flat_map-append}
+use Rattle.std.specs.List.{flat_map}
+use Rattle.std.proofs.lemmas.List.{append-nil, take_all}
+use Rattle.std.proofs.lemmas.Grind.{flat_map-append}
 use Rattle.text_terms.specs.Lines.{lines_of}
+use Rattle.text_terms.specs.Prefixes.{with_those_before}
 use Rattle.text_terms.proofs.Cases.{by_bool}
+use Rattle.text_terms.proofs.PrefixLaws.{before_push}
 use Rattle.edt_text.specs.declared.cursor.Line.{Line}
 use Rattle.edt_text.specs.declared.cursor.Lines.{Lines}
 use Rattle.edt_text.specs.LineCursor.{line_text, lines_left, lines_passed}
@@ -18,7 +19,8 @@ use Rattle.control_reader.specs.Includes.{include_count}
 use Rattle.control_reader.specs.Inside.Said.{said_of, control_line}
 use Rattle.control_reader.specs.Inside.Follows.{Follows}
 use Rattle.control_reader.specs.Inside.SaidLimits.{IsWithin}
-use Rattle.control_reader.proofs.ListLaws.{Cut, range_more, range_cut, count_front}
+use Rattle.control_reader.proofs.ListLaws.{count_front}
+use Rattle.control_reader.proofs.DraftSteps.{count_more}
 use Rattle.control_reader.proofs.FaultSteps.{fault_of_next}
 use Rattle.control_reader.proofs.FileSteps.{Given, given_none, given_next, given_all, few_given}
 
@@ -26,42 +28,35 @@ use Rattle.control_reader.proofs.FileSteps.{Given, given_none, given_next, given
 abbrev pub includes_to : List ℕ → ℕ → ℕ
 includes_to main k = count_by is_include (take k (file_lines 0 main))
 
--- the lines at a place of the main file: the line there, and those of its included file
-abbrev pub lines_at : List ℕ → List (List ℕ) → ℕ → List ControlLine
-lines_at main included k = flat_map (with_file included (includes_to main k)) (take 1 (drop k (file_lines 0 main)))
+-- the lines of a front of the main file, with those of the files that they include
+abbrev pub all_lines : List (List ℕ) → List ControlLine → List ControlLine
+all_lines included lines =
+    flat_map (λ (at : List ControlLine × ControlLine). with_file included (count_by is_include at.0) at.1) (with_those_before lines)
 
 -- all lines up to a place of the main file
 abbrev pub lines_to : List ℕ → List (List ℕ) → ℕ → List ControlLine
-lines_to main included k = flat_map (lines_at main included) (range_with_len 0 k)
+lines_to main included k = all_lines included (take k (file_lines 0 main))
 
--- one more place
-lines_to_more : (main : List ℕ) (included : List (List ℕ)) (k : ℕ) → lines_to main included (suc k) ≡ lines_to main included k ++ lines_at main included k
-lines_to_more main included k =
-    ap (flat_map (lines_at main included)) (range_more 0 k k (omega arith))
-    ∙ flat_map-append (lines_at main included) (range_with_len 0 k) (k ∷ [])
-    ∙ ap (λ ls. lines_to main included k ++ ls) (append-nil (lines_at main included k))
+-- one more line
+all_push : (included : List (List ℕ)) (front : List ControlLine) (line : ControlLine)
+    → all_lines included (front ++ line ∷ []) ≡ all_lines included front ++ with_file included (count_by is_include front) line
+all_push included front line =
+    let each : List ControlLine × ControlLine → List ControlLine = λ at. with_file included (count_by is_include at.0) at.1 in
+    ap (flat_map each) (before_push front line)
+    ∙ flat_map-append each (with_those_before front) ((front, line) ∷ [])
+    ∙ ap (λ ls. all_lines included front ++ ls) (append-nil (with_file included (count_by is_include front) line))
 
--- the lines at a place stand between those up to it and those behind it
-pub record IsCutAt (main : List ℕ) (included : List (List ℕ)) (k : ℕ) : Type 0 where
-  pub behind : List ControlLine
-  pub whole : control_lines main included ≡ lines_to main included k ++ (lines_at main included k ++ behind)
-
-pub lines_cut : (main : List ℕ) (included : List (List ℕ)) (k : ℕ) → k < length (file_lines 0 main) → IsCutAt main included k
-unfolding control_lines
-lines_cut main included k within =
-    let m : ℕ = length (file_lines 0 main) - suc k in
-    let all : length (file_lines 0 main) ≡ k + suc m = omega (arith, within) in
-    record {
-      behind = flat_map (lines_at main included) (range_with_len (k + 1) m);
-      whole =
-          ap (λ n. flat_map (lines_at main included) (range_with_len 0 n)) all
-          ∙ ap (flat_map (lines_at main included)) (range_cut 0 k m k (omega arith))
-          ∙ flat_map-append (lines_at main included) (range_with_len 0 k) (k ∷ range_with_len (k + 1) m);
-    }
-
-pub lines_whole : (main : List ℕ) (included : List (List ℕ)) (k : ℕ) → k ≡ length (file_lines 0 main) → lines_to main included k ≡ control_lines main included
-unfolding control_lines
-lines_whole main included k all = ap (λ n. flat_map (lines_at main included) (range_with_len 0 n)) all
+-- the lines of a front stand before all others
+front_first : (included : List (List ℕ)) (front rest : List ControlLine)
+    → (behind : List ControlLine) × (all_lines included (front ++ rest) ≡ all_lines included front ++ behind)
+front_first included front [] = ([], ap (all_lines included) (append-nil front) ∙ sym (append-nil (all_lines included front)))
+front_first included front (line ∷ rest) =
+    let more = front_first included (front ++ line ∷ []) rest in
+    let here : List ControlLine = with_file included (count_by is_include front) line in (
+      here ++ more.0,
+      ap (all_lines included) (sym (append_assoc front (line ∷ []) rest)) ∙ more.1 ∙ ap (λ ls. ls ++ more.0) (all_push included front line)
+      ∙ append_assoc (all_lines included front) here more.0,
+    )
 
 -- the draft follows all lines up to the one that was given last
 pub record Reads (main : List ℕ) (included : List (List ℕ)) (lines : Lines) (draft : Draft) : Type 0 where
@@ -81,42 +76,30 @@ reads_room main included lines draft reads size =
 pub record IsPlace (main : List ℕ) (included : List (List ℕ)) (old new : Lines) (line : Line) : Type 0 where
   pub given : Given 0 main new
   pub more : lines_passed new ≡ suc (lines_passed old)
-  pub within : lines_passed old < length (file_lines 0 main)
-  pub lines : lines_at main included (lines_passed old) ≡ with_file included (includes_to main (lines_passed old)) (control_line 0 line)
+  pub behind : List ControlLine
+  pub whole : control_lines main included ≡ lines_to main included (lines_passed old) ++ (with_file included (includes_to main (lines_passed old)) (control_line 0 line) ++ behind)
+  pub lines : lines_to main included (lines_passed new) ≡ lines_to main included (lines_passed old) ++ with_file included (includes_to main (lines_passed old)) (control_line 0 line)
   pub includes : includes_to main (lines_passed new) ≡ (if is_include (control_line 0 line) then includes_to main (lines_passed old) + 1 else includes_to main (lines_passed old))
-
-count_snoc : (p : ControlLine → Bool) (lines : List ControlLine) (line : ControlLine)
-    → count_by p (lines ++ line ∷ []) ≡ (if p line then count_by p lines + 1 else count_by p lines)
-count_snoc p lines line = elim (by_bool (p line)) [
-  | inl has ↦ rw has (grind (arith, common_steps))
-  | inr lacks ↦ rw lacks (grind (arith, common_steps))
-]
-
--- the first line behind those that were passed over
-drop_front : (k : ℕ) (xs : List ControlLine) (x : ControlLine) (rest : List ControlLine) → Cut k xs x rest → take 1 (drop k xs) ≡ x ∷ []
-drop_front k xs x rest cut =
-    let front : length (take k xs) ≡ k = grind (arith, common_steps, cut.within) in
-    let split = drop-append_seam (take k xs) (x ∷ rest) in
-    let whole : drop (length (take k xs)) (take k xs ++ x ∷ rest) ≡ drop k xs = ap (λ n. drop n (take k xs ++ x ∷ rest)) front ∙ ap (drop k) (sym cut.whole) in
-    ap (take 1) (sym whole ∙ split)
 
 pub next_place : (main : List ℕ) (included : List (List ℕ)) (old new : Lines) (line : Line) → Given 0 main old
     → lines_left old ≡ line_text line ∷ lines_left new → line.number ≡ lines_passed old + 1 → lines_passed new ≡ line.number
     → IsPlace main included old new line
+unfolding control_lines front_first
 next_place main included old new line given e number passed =
     let at = given_next 0 main old new line given e number passed in
-    let k : ℕ = lines_passed old in
-    let more : lines_passed new ≡ suc k = omega (arith, number, passed) in
-    let here : take 1 (drop k (file_lines 0 main)) ≡ control_line 0 line ∷ [] = drop_front k (file_lines 0 main) (control_line 0 line) _ at.0 in
+    let front : List ControlLine = take (lines_passed old) (file_lines 0 main) in
+    let more : lines_passed new ≡ suc (lines_passed old) = omega (arith, number, passed) in
+    let rest : List ControlLine = drop (lines_passed new) (file_lines 0 main) in
     record {
       given = at.1;
       more = more;
-      within = at.0.within;
-      lines = ap (flat_map (with_file included (includes_to main k))) here ∙ append-nil (with_file included (includes_to main k) (control_line 0 line));
-      includes = rw (more, at.0.upto) (count_snoc is_include (take k (file_lines 0 main)) (control_line 0 line));
+      behind = (front_first included (front ++ control_line 0 line ∷ []) rest).0;
+      whole = ap (all_lines included) at.0.whole ∙ (front_first included front (control_line 0 line ∷ rest)).1;
+      lines = rw (more, at.0.upto) (all_push included front (control_line 0 line));
+      includes = rw (more, at.0.upto) (count_more is_include front (control_line 0 line));
     }
 
--- a line of the main file, and what stands behind it
+-- a line of the main file, and what stands after it
 with_file_behind : (included : List (List ℕ)) (before : ℕ) (line : ControlLine)
     → with_file included before line ≡ line ∷ (if is_include line then included_lines included (before + 1) else [])
 with_file_behind included before line = elim (by_bool (is_include line)) [ inl has ↦ rw has refl | inr lacks ↦ rw lacks refl ]
@@ -139,16 +122,13 @@ pub reads_line : (main : List ℕ) (included : List (List ℕ)) (old new : Lines
 reads_line main included old new draft next line reads place follows limits includes same room =
     let plain = same_files (is_include (control_line 0 line)) draft.includes next.includes includes same in
     let count : next.includes ≡ draft.includes = includes ∙ ap (λ b. if b then draft.includes + 1 else draft.includes) plain in
-    let lines : lines_at main included (lines_passed old) ≡ control_line 0 line ∷ [] =
-    place.lines ∙ with_file_behind included (includes_to main (lines_passed old)) (control_line 0 line)
-    ∙ ap (λ b. control_line 0 line ∷ (if b then included_lines included (includes_to main (lines_passed old) + 1) else [])) plain in
-    let step = lines_to_more main included (lines_passed old) in
-    let more = place.more in
+    let lines : lines_to main included (lines_passed new) ≡ lines_to main included (lines_passed old) ++ control_line 0 line ∷ [] =
+    rw plain at place.lines in
     let places = place.includes
     ∙ ap (λ b. if b then includes_to main (lines_passed old) + 1 else includes_to main (lines_passed old)) plain in
     record {
       given = place.given;
-      follows = rw (more, step, lines) (follows (lines_to main included (lines_passed old)) reads.follows);
+      follows = rw lines (follows (lines_to main included (lines_passed old)) reads.follows);
       limits = limits;
       includes = count ∙ reads.includes ∙ sym places;
       room = omega (arith, reads.room, room, count, place.more);
@@ -158,7 +138,7 @@ reads_line main included old new draft next line reads place follows limits incl
 pub record IsNextFile (main : List ℕ) (included : List (List ℕ)) (old new : Lines) (line : Line) (draft mid : Draft) (bytes : List ℕ) : Type 0 where
   pub includes : mid.includes ≡ draft.includes + 1
   pub places : includes_to main (lines_passed new) ≡ draft.includes + 1
-  pub lines : lines_at main included (lines_passed old) ≡ control_line 0 line ∷ file_lines mid.includes bytes
+  pub lines : with_file included (includes_to main (lines_passed old)) (control_line 0 line) ≡ control_line 0 line ∷ file_lines mid.includes bytes
 
 pub next_file : (main : List ℕ) (included : List (List ℕ)) (old new : Lines) (draft mid : Draft) (line : Line) (bytes : List ℕ) → Reads main included old draft
     → IsPlace main included old new line
@@ -176,10 +156,7 @@ next_file main included old new draft mid line bytes reads place includes less f
           place.includes ∙ ap (λ b. if b then includes_to main (lines_passed old) + 1 else includes_to main (lines_passed old)) has
           ∙ ap (λ n. n + 1) (sym reads.includes);
       lines =
-          place.lines ∙ with_file_behind included (includes_to main (lines_passed old)) (control_line 0 line)
-          ∙ ap (λ b. control_line 0 line ∷ (if b then included_lines included (includes_to main (lines_passed old) + 1) else [])) has
-          ∙ ap (λ n. control_line 0 line ∷ included_lines included n) number
-          ∙ ap (λ ls. control_line 0 line ∷ ls) file;
+          rw has (ap (λ n. control_line 0 line ∷ included_lines included n) number ∙ ap (λ ls. control_line 0 line ∷ ls) file);
     }
 
 -- one more line with its file
@@ -193,12 +170,11 @@ reads_file main included old new draft mid next line bytes reads place file foll
     let front : List ControlLine = lines_to main included (lines_passed old) in
     let both : Follows (front ++ control_line 0 line ∷ [] ++ file_lines mid.includes bytes) next =
     follows_file (front ++ control_line 0 line ∷ []) (follows front reads.follows) in
-    let step = lines_to_more main included (lines_passed old) in
-    let more = place.more in
-    let lines = file.lines in
+    let lines : lines_to main included (lines_passed new) ≡ front ++ (control_line 0 line ∷ file_lines mid.includes bytes) =
+    place.lines ∙ ap (λ ls. front ++ ls) file.lines in
     record {
       given = place.given;
-      follows = rw (more, step, lines, ← append_assoc front (control_line 0 line ∷ []) (file_lines mid.includes bytes)) both;
+      follows = rw (lines, ← append_assoc front (control_line 0 line ∷ []) (file_lines mid.includes bytes)) both;
       limits = limits;
       includes = includes ∙ file.includes ∙ sym file.places;
       room = omega (arith, reads.room, room, room_file, includes, file.includes, place.more);
@@ -212,12 +188,11 @@ pub reads_fault : (main : List ℕ) (included : List (List ℕ)) (old new : Line
 reads_fault main included old new draft line fault reads place of_file of_line is =
     let front : List ControlLine = lines_to main included (lines_passed old) in
     let before : ℕ = includes_to main (lines_passed old) in
-    let cut = lines_cut main included (lines_passed old) place.within in
     let behind : List ControlLine = if is_include (control_line 0 line) then included_lines included (before + 1) else [] in
-    let whole : control_lines main included ≡ front ++ control_line 0 line ∷ (behind ++ cut.behind) =
-    cut.whole ∙ ap (λ ls. front ++ (ls ++ cut.behind)) (place.lines ∙ with_file_behind included before (control_line 0 line)) in
+    let whole : control_lines main included ≡ front ++ control_line 0 line ∷ (behind ++ place.behind) =
+    place.whole ∙ ap (λ ls. front ++ (ls ++ place.behind)) (with_file_behind included before (control_line 0 line)) in
     rw whole
-    (fault_of_next front (behind ++ cut.behind) (control_line 0 line) fault reads.follows.clean (is front reads.follows) of_file of_line)
+    (fault_of_next front (behind ++ place.behind) (control_line 0 line) fault reads.follows.clean (is front reads.follows) of_file of_line)
 
 -- a fault of a line of the included file
 pub reads_file_fault : (main : List ℕ) (included : List (List ℕ)) (old new : Lines) (draft mid : Draft) (line : Line) (bytes : List ℕ) (fault : ControlFault)
@@ -228,19 +203,20 @@ pub reads_file_fault : (main : List ℕ) (included : List (List ℕ)) (old new :
 reads_file_fault main included old new draft mid line bytes fault reads place file follows is =
     let front : List ControlLine = lines_to main included (lines_passed old) in
     let lines : List ControlLine = file_lines mid.includes bytes in
-    let cut = lines_cut main included (lines_passed old) place.within in
-    let found = is (front ++ control_line 0 line ∷ []) cut.behind (follows front reads.follows) in
-    let whole : control_lines main included ≡ front ++ control_line 0 line ∷ [] ++ lines ++ cut.behind =
-    cut.whole ∙ ap (λ ls. front ++ (ls ++ cut.behind)) file.lines
-    ∙ sym (append_assoc front (control_line 0 line ∷ lines) cut.behind)
-    ∙ ap (λ ls. ls ++ cut.behind) (sym (append_assoc front (control_line 0 line ∷ []) lines)) in
+    let found = is (front ++ control_line 0 line ∷ []) place.behind (follows front reads.follows) in
+    let whole : control_lines main included ≡ front ++ control_line 0 line ∷ [] ++ lines ++ place.behind =
+    place.whole ∙ ap (λ ls. front ++ (ls ++ place.behind)) file.lines
+    ∙ sym (append_assoc front (control_line 0 line ∷ lines) place.behind)
+    ∙ ap (λ ls. ls ++ place.behind) (sym (append_assoc front (control_line 0 line ∷ []) lines)) in
     rw whole found
 
 -- no line is left
 pub reads_all : (main : List ℕ) (included : List (List ℕ)) (lines : Lines) (draft : Draft) → Reads main included lines draft → lines_left lines ≡ []
     → Follows (control_lines main included) draft
+unfolding control_lines
 reads_all main included lines draft reads end =
-    let whole = lines_whole main included (lines_passed lines) (given_all 0 main lines reads.given end) in
+    let all = given_all 0 main lines reads.given end in
+    let whole = take_all (lines_passed lines) (file_lines 0 main) (omega (arith, all)) in
     rw whole at reads.follows
 
 -- the file of a line is among the included ones

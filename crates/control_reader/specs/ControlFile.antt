@@ -19,7 +19,8 @@ use Rattle.control_reader.specs.declared.values.Method.{Method}
 use Rattle.control_reader.specs.Keywords.{keyword_of, is_once, is_not_yet}
 use Rattle.control_reader.specs.ControlLines.{ControlLine, control_lines, kind_of, has_keyword, is_include, arguments_of, statement_with, statements_with}
 use Rattle.control_reader.specs.Values.{files_of, frame_of, method_of, sigma_of, cells_of, phase_ids_of, exclude_of, delay_of, alias_of, seed_of, count_of, shape_of}
-use Rattle.control_reader.specs.WordFaults.{first_cause, unless, words_fault}
+use Rattle.text_terms.specs.Faults.{first_cause, unless}
+use Rattle.control_reader.specs.WordFaults.{words_fault}
 
 -- the line includes a file and stands in an included file
 abbrev pub is_nested : ControlLine → Bool
@@ -70,7 +71,7 @@ missing_fault lines =
     ∷ missing Locgau (codes "LOCGAU") lines
     ∷ [])
 
--- the fault at a place, counted from 0: that of the line there, and behind the last line that of the whole file
+-- the fault at a place, counted from 0: that of the line there, and after the last line that of the whole file
 abbrev pub fault_of_line : List ControlLine → ℕ → Option ControlLine → Option ControlCause
 fault_of_line lines k None = missing_fault lines
 fault_of_line lines k (Some line) = fault_after (take k lines) line
@@ -78,7 +79,7 @@ fault_of_line lines k (Some line) = fault_after (take k lines) line
 unfoldable pub fault_at : List ControlLine → ℕ → Option ControlCause
 fault_at lines k = fault_of_line lines k (slice_get lines k)
 
--- the file and the number of the line at a place; 0 and 0 behind the last line
+-- the file and the number of the line at a place; 0 and 0 after the last line
 abbrev pub line_place : Option ControlLine → ℕ × ℕ
 line_place None = (0, 0)
 line_place (Some line) = (line.file, line.number)
@@ -139,7 +140,7 @@ pub record IsReading (main : List ℕ) (included : List (List ℕ)) (control : C
   pub faultless : HasNoFault (fault_at (control_lines main included)) (length (control_lines main included))
   pub says : IsControlOf (control_lines main included) control
 
--- the fault names the first faulty line by its file and its number, or a missing statement behind all lines, and the first cause there
+-- the fault names the first faulty line by its file and its number, or a missing statement after all lines, and the first cause there
 pub record IsFaultOf (lines : List ControlLine) (fault : ControlFault) : Type 0 where
   pub place : ℕ
   pub line : (fault.file, fault.line) ≡ line_place (slice_get lines place)

@@ -1,9 +1,10 @@
 -- The lines of a control file, those of the included files among them, and their statements.
-use Rattle.std.specs.Prelude.{ℕ, ◌+◌, ◌-◌, ◌==◌, Bool, false, if◌then◌else◌, List, [], ◌∷◌, length, take, drop, map, filter, count_by, slice_get, slice_index, unwrap_or, Option, Some, None, codes}
-use Rattle.std.specs.List.{enumerate_from, find, flat_map, range_with_len}
+use Rattle.std.specs.Prelude.{ℕ, ◌+◌, ◌-◌, ◌==◌, Bool, false, if◌then◌else◌, List, [], ◌∷◌, drop, map, filter, count_by, slice_get, slice_index, unwrap_or, Option, Some, None, codes}
+use Rattle.std.specs.List.{find, flat_map}
 use Rattle.std.specs.Option.{option_map}
 use Rattle.std.specs.Str.{bytes_eq}
-use Rattle.text_terms.specs.Lines.{LineText, lines_of}
+use Rattle.text_terms.specs.Lines.{NumberedLine, numbered_lines}
+use Rattle.text_terms.specs.Prefixes.{with_those_before}
 use Rattle.text_terms.specs.Words.{words_of}
 use Rattle.control_reader.specs.declared.statement.Statement.{Statement}
 use Rattle.control_reader.specs.declared.statement.LineKind.{LineKind}
@@ -19,8 +20,7 @@ pub record ControlLine : Type 0 where
 -- the lines of one file
 abbrev pub file_lines : ℕ → List ℕ → List ControlLine
 file_lines file bytes =
-    map (λ (line : ℕ × List ℕ). record { file = file; number = line.0; bytes = line.1 })
-    (enumerate_from 1 (map (λ (line : LineText). line.bytes) (lines_of bytes)))
+    map (λ (line : NumberedLine). record { file = file; number = line.0; bytes = line.1 }) (numbered_lines bytes)
 
 -- the kind of a line with this keyword
 abbrev pub kind_of_statement : Option Statement → LineKind
@@ -57,22 +57,21 @@ is_include line = has_keyword (codes "INCLUDE") line
 abbrev pub included_lines : List (List ℕ) → ℕ → List ControlLine
 included_lines included file = file_lines file (unwrap_or (slice_get included (file - 1)) [])
 
--- a line of the main file, given how many INCLUDE lines stand before it, with the lines of the file that it includes behind it
+-- a line of the main file, given how many INCLUDE lines stand before it, with the lines of the file that it includes after it
 abbrev pub with_file : List (List ℕ) → ℕ → ControlLine → List ControlLine
 with_file included before line = if is_include line then line ∷ included_lines included (before + 1) else line ∷ []
 
--- the lines in reading order: those of the main file, and behind each INCLUDE line those of its file
+-- the lines in reading order: those of the main file, and after each INCLUDE line those of its file
 unfoldable pub control_lines : List ℕ → List (List ℕ) → List ControlLine
 control_lines main included =
-    let lines : List ControlLine = file_lines 0 main in
-    flat_map (λ (k : ℕ). flat_map (with_file included (count_by is_include (take k lines))) (take 1 (drop k lines)))
-    (range_with_len 0 (length lines))
+    flat_map (λ (at : List ControlLine × ControlLine). with_file included (count_by is_include at.0) at.1)
+    (with_those_before (file_lines 0 main))
 
--- the words behind the keyword of a line
+-- the words after the keyword of a line
 unfoldable pub arguments_of : ControlLine → List (List ℕ)
 arguments_of line = drop 1 (words_of line.bytes)
 
--- the words behind the keyword, of the first statement that has it, if there is one
+-- the words after the keyword, of the first statement that has it, if there is one
 unfoldable pub statement_with : List ℕ → List ControlLine → Option (List (List ℕ))
 statement_with keyword lines = option_map arguments_of (find (has_keyword keyword) lines)
 

@@ -8,7 +8,8 @@ use Rattle.control_reader.specs.declared.fault.ControlFault.{ControlFault}
 use Rattle.control_reader.specs.declared.statement.Statement.TheVariants.{Include}
 use Rattle.control_reader.specs.ControlLines.{ControlLine, file_lines, is_include, arguments_of, statements_with}
 use Rattle.control_reader.specs.Values.{include_of}
-use Rattle.control_reader.specs.WordFaults.{first_cause, unless, words_fault}
+use Rattle.text_terms.specs.Faults.{first_cause, unless}
+use Rattle.control_reader.specs.WordFaults.{words_fault}
 use Rattle.control_reader.specs.ControlFile.{is_one_file_too_many}
 
 -- the fault of a line of the main file that includes a file, given the lines before it

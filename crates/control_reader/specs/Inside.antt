@@ -1,5 +1,4 @@
 -- Words for the crate's own parts, on which no public clause rests.
-pub mod Arguments
 pub mod Said
 pub mod NextStatement
 pub mod NextFault

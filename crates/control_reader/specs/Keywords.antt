@@ -68,7 +68,7 @@ is_once Edtkernel = true
 is_once Edtlanes = true
 is_once Locgau2 = true
 
--- how many words the statement needs behind its keyword
+-- how many words the statement needs after its keyword
 abbrev pub least_of : Statement → ℕ
 least_of Locfiles = 4
 least_of Locgrid = 9

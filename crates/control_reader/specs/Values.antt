@@ -1,4 +1,4 @@
--- What single statements say, by the words behind their keywords.
+-- What single statements say, by the words after their keywords.
 use Rattle.std.specs.Prelude.{ℕ, ◌==◌, ◌&&◌, Bool, not, nat_lt, if◌then◌else◌, max, min, List, length, map, drop, ℤ, pos, negsuc, unsigned_abs, codes}
 use Rattle.std.specs.Str.{bytes_eq}
 use Rattle.kernel_table.specs.declared.kernels.Shape.{Shape}
@@ -11,7 +11,8 @@ use Rattle.control_reader.specs.declared.control.Delay.{Delay}
 use Rattle.control_reader.specs.declared.control.Alias.{Alias}
 use Rattle.control_reader.specs.declared.values.Files.{Files}
 use Rattle.control_reader.specs.declared.values.Method.{Method}
-use Rattle.control_reader.specs.Words.{word_at, whole_at, millionths_at, count_at}
+use Rattle.text_terms.specs.Words.{word_at}
+use Rattle.control_reader.specs.Words.{whole_at, millionths_at, count_at}
 
 -- the statement has a word at the place
 abbrev pub has_word : ℕ → List (List ℕ) → Bool
@@ -59,7 +60,7 @@ abbrev pub cells_of_number : ℤ → ℕ
 cells_of_number (pos n) = max 1 (min n 4096)
 cells_of_number (negsuc n) = 1
 
--- LOCSEARCH: behind OCT the initial cells along x, y and z; one along each axis for other search types
+-- LOCSEARCH: after OCT the initial cells along x, y and z; one along each axis for other search types
 unfoldable pub cells_of : List (List ℕ) → ℕ × ℕ × ℕ
 cells_of words =
     if bytes_eq (word_at 0 words) (codes "OCT")
@@ -99,7 +100,7 @@ include_of words = word_at 0 words
 unfoldable pub count_of : List (List ℕ) → ℕ
 count_of words = count_at 0 words
 
--- EDTKERNEL: the kernel, behind COUNT with its limit, in microseconds
+-- EDTKERNEL: the kernel, after COUNT with its limit, in microseconds
 unfoldable pub shape_of : List (List ℕ) → Shape
 shape_of words =
     if bytes_eq (word_at 0 words) (codes "COUNT") then Count (unsigned_abs (millionths_at 1 words))

@@ -1,26 +1,18 @@
--- The first fault in the words behind a keyword.
+-- The first fault in the words after a keyword.
 use Rattle.std.specs.Prelude.{ℕ, ◌*◌, ◌==◌, ◌&&◌, ◌||◌, ◌^◌, Bool, true, not, nat_le, nat_lt, if◌then◌else◌, List, [], ◌∷◌, length, Option, Some, None, ℤ, pos, int_le, unsigned_abs, codes}
 use Rattle.std.specs.List.{list_all, list_any}
 use Rattle.std.specs.Str.{bytes_eq}
+use Rattle.text_terms.specs.Faults.{first_cause, unless}
 use Rattle.text_terms.specs.Names.{is_name}
 use Rattle.fixed_decimal.specs.Value.{millionths_of, whole_of}
 use Rattle.control_reader.specs.declared.fault.ControlCause.{ControlCause}
 use Rattle.control_reader.specs.declared.fault.ControlCause.TheVariants.{Fields, Name, Number, Method, FileType, Limit}
 use Rattle.control_reader.specs.declared.statement.Statement.{Statement}
 use Rattle.control_reader.specs.declared.statement.Statement.TheVariants.{Locfiles, Locgrid, Locmeth, Locgau, Locsearch, Locphaseid, Locexclude, Locdelay, Localias, Control, Include, Edtnear, Edtbudget, Edtkernel, Edtlanes, Locgau2}
-use Rattle.control_reader.specs.Words.{word_at, count_at}
+use Rattle.text_terms.specs.Words.{word_at}
+use Rattle.control_reader.specs.Words.{count_at}
 use Rattle.control_reader.specs.Values.{has_word}
 use Rattle.control_reader.specs.Keywords.{least_of}
-
--- a cause, unless the test passes
-abbrev pub unless : Bool → ControlCause → Option ControlCause
-unless test cause = if test then None else Some cause
-
--- the first cause of a list
-abbrev pub first_cause : List (Option ControlCause) → Option ControlCause
-first_cause [] = None
-first_cause (None ∷ causes) = first_cause causes
-first_cause (Some cause ∷ causes) = Some cause
 
 -- a word is a name of at most so many bytes
 abbrev pub name_fault : ℕ → List ℕ → Option ControlCause
@@ -123,7 +115,7 @@ method_fault words =
 unfoldable pub sigma_fault : List (List ℕ) → Option ControlCause
 sigma_fault words = decimal_fault (from_to (pos 0) (pos (10 ^ 8))) (word_at 0 words)
 
--- LOCSEARCH: behind OCT three whole numbers
+-- LOCSEARCH: after OCT three whole numbers
 abbrev pub octree_fault : List (List ℕ) → Option ControlCause
 octree_fault words =
     first_cause (
@@ -191,7 +183,7 @@ budget_fault words = whole_fault (from_to (pos 1) (pos 4000000)) (word_at 0 word
 unfoldable pub lanes_fault : List (List ℕ) → Option ControlCause
 lanes_fault words = whole_fault (from_to (pos 1) (pos 64)) (word_at 0 words)
 
--- EDTKERNEL: behind COUNT a decimal of 0 to 1000 seconds
+-- EDTKERNEL: after COUNT a decimal of 0 to 1000 seconds
 abbrev pub limit_fault : List (List ℕ) → Option ControlCause
 limit_fault words =
     first_cause (
@@ -199,7 +191,7 @@ limit_fault words =
     ∷ decimal_fault (from_to (pos 0) (pos (10 ^ 9))) (word_at 1 words)
     ∷ [])
 
--- COUNT, or GAUSS or TRIANGLE, behind which no word is read
+-- COUNT, or GAUSS or TRIANGLE, after which no word is read
 unfoldable pub shape_fault : List (List ℕ) → Option ControlCause
 shape_fault words =
     if bytes_eq (word_at 0 words) (codes "COUNT") then limit_fault words

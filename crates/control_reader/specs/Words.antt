@@ -1,10 +1,7 @@
--- The words behind a keyword, counted from 0, and the numbers that they write.
-use Rattle.std.specs.Prelude.{ℕ, List, [], Option, unwrap_or, get_or, ℤ, pos, unsigned_abs}
+-- The numbers that the words after a keyword write, counted from 0.
+use Rattle.std.specs.Prelude.{ℕ, List, Option, unwrap_or, ℤ, pos, unsigned_abs}
+use Rattle.text_terms.specs.Words.{word_at}
 use Rattle.fixed_decimal.specs.Value.{millionths_of, whole_of}
-
--- a word, or no bytes where there is no such word
-abbrev pub word_at : ℕ → List (List ℕ) → List ℕ
-word_at k words = get_or words k []
 
 -- a number, 0 where there is none
 abbrev pub number_or_zero : Option ℤ → ℤ

@@ -90,7 +90,7 @@ pub struct Control {
     pub budget: u32,
     /// The kernel, by default `Gauss`. The limit of `Count` is at most 10^9 microseconds.
     pub shape: Shape,
-    /// How many lanes search an event at once, 1 to 64; 1 where none is given.
+    /// How many lanes a search is divided over, 1 to 64; 1 where none is given.
     pub lanes: u32,
     /// How many lines have a keyword that isn't read.
     pub passed: u32,

@@ -17,7 +17,7 @@ pub enum Keyword {
 /// What is wrong with a line, or with the whole control file.
 ///
 /// In one line `LongLine` is tested first, then `NestedInclude` or `NotYet`, then `Repeated`, then `Fields`, then the words from left
-/// to right, and for an `INCLUDE` line `Limit` last. `Missing` is tested behind all lines.
+/// to right, and for an `INCLUDE` line `Limit` last. `Missing` is tested after all lines.
 #[derive(Clone, Copy, Debug, PartialEq, Eq, Error)]
 pub enum ControlCause {
     /// The line has more than 4096 bytes, whatever kind of line it is.

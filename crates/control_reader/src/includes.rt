@@ -3,15 +3,14 @@ ghost use Rattle.std.specs.Prelude.{◌≡◌, ◌≢◌, ◌≤◌, ◌++◌, �
 ghost use Rattle.text_terms.specs.Names.{is_name};
 ghost use Rattle.control_reader.specs.Inside.IncludeNames.{names_in, name_fault_by};
 
-use crate::arguments::Arguments;
 use crate::fault::ControlCause;
 use crate::statement::{Statement, split_line};
 use crate::taking::{LONGEST_LINE, MOST_FILES, push};
 use crate::words::read_include;
-use edt_text::Name;
+use edt_text::{Name, PlacedWords};
 use std::alloc::Global;
 
-/// Puts the name of the file that a line of the main file includes behind the others, or answers the first fault in it. No other line is
+/// Puts the name of the file that a line of the main file includes after the others, or answers the first fault in it. No other line is
 /// looked at.
 #[tactic(auto, unfolding(crate::specs::ControlLines::kind_of, crate::specs::ControlLines::arguments_of))]
 pub(crate) fn take_name(
@@ -34,7 +33,7 @@ pub(crate) fn take_name(
     if line.len() > LONGEST_LINE {
         return Err(ControlCause::LongLine);
     }
-    let arguments = Arguments::new(words);
+    let arguments = PlacedWords::new(words);
     if !arguments.has(Statement::Include.least()) {
         return Err(ControlCause::Fields);
     }

@@ -1,11 +1,11 @@
 //! Control files: the statements of the NonLinLoc documentation that a location needs, in this project's profile.
 #![tactic(auto)]
 
-mod arguments;
 mod control;
 mod draft;
 mod fault;
 mod includes;
+mod laws;
 mod reading;
 mod statement;
 mod taking;
@@ -16,4 +16,5 @@ mod words;
 
 pub use control::{Alias, Control, Delay, Exclude, PhaseId};
 pub use fault::{ControlCause, ControlFault, Keyword};
-pub use reading::{include_names, read_control, reading_excludes_fault, reading_says_values};
+pub use laws::{reading_excludes_fault, reading_says_values};
+pub use reading::{include_names, read_control};

@@ -1,15 +1,11 @@
 //! The reading of a control file.
-ghost use Rattle.std.specs.Prelude.{◌≡◌, ◌≢◌, ◌≤◌, ℕ, List, length, map, All, IfOk, IfErr, vec_len, IsTrue};
+ghost use Rattle.std.specs.Prelude.{◌≡◌, ◌≢◌, ◌≤◌, length, map, All, IfOk, IfErr, vec_len, IsTrue};
 ghost use Rattle.text_terms.specs.Names.{is_name};
-ghost use Rattle.control_reader.specs.declared.control.Control.{Control};
-ghost use Rattle.control_reader.specs.declared.fault.ControlFault.{ControlFault};
-ghost use Rattle.control_reader.specs.ControlFile.{IsControlOf, IsReading, IsControlFault};
-ghost use Rattle.control_reader.specs.ControlLines.{ControlLine, control_lines};
+ghost use Rattle.control_reader.specs.ControlFile.{IsReading, IsControlFault};
+ghost use Rattle.control_reader.specs.ControlLines.{control_lines};
 ghost use Rattle.control_reader.specs.Inside.Said.{said_of};
 ghost use Rattle.control_reader.specs.Inside.Follows.{Follows};
 ghost use Rattle.control_reader.specs.Inside.SaidLimits.{IsWithin};
-ghost use Rattle.control_reader.specs.ControlValues.{values_of};
-ghost use Rattle.control_reader.specs.ValuesOfLines.{values_in};
 ghost use Rattle.control_reader.specs.Includes.{AreIncludes, IsIncludeFault, include_count};
 ghost use Rattle.control_reader.specs.Limits.{IsControl};
 
@@ -52,7 +48,7 @@ pub fn include_names(alloc: Global, main: &[u8]) -> Result<Vec<Name>, ControlFau
 /// Reads a main control file and the files that it includes, one for each `INCLUDE` line, each of at most 1,048,576 bytes.
 ///
 /// The statements are the lines of the main file with the lines of each included file in place of its `INCLUDE` line. The first faulty
-/// line in this order decides, and in it the first cause, as `ControlCause` says. `Missing` comes behind all lines, with file 0 and
+/// line in this order decides, and in it the first cause, as `ControlCause` says. `Missing` comes after all lines, with file 0 and
 /// line 0, in the order of `Keyword`. `Memory` comes for want of memory alone.
 pub fn read_control(
     alloc: Global,
@@ -70,7 +66,7 @@ pub fn read_control(
     draft.finish()
 }
 
-// What all lines say, those of each included file behind its line, or their first fault.
+// What all lines say, those of each included file after its line, or their first fault.
 fn read_lines(alloc: Global, main: &[u8], included: &[Vec<u8>]) -> Result<Draft, ControlFault>
     requires main { length main.now ≤ 1048576 }
     requires files { length included.now ≡ include_count main.now }
@@ -91,14 +87,3 @@ fn read_lines(alloc: Global, main: &[u8], included: &[Vec<u8>]) -> Result<Draft,
     }
     Ok(draft)
 }
-
-/// No control file has both a reading and a fault, and no main file both names and a fault of an `INCLUDE` line.
-pub fn reading_excludes_fault()
-    ensures control { (main : List ℕ) (included : List (List ℕ)) (control : Control) (fault : ControlFault) → IsReading main included control → IsControlFault main included fault → ⊥ }
-    ensures names { (main : List ℕ) (names : List (List ℕ)) (fault : ControlFault) → AreIncludes main names → IsIncludeFault main fault → ⊥ }
-{}
-
-/// The values of a control file are those of its lines: each field is a function of the statements with its keyword.
-pub fn reading_says_values()
-    ensures { (lines : List ControlLine) (control : Control) → IsControlOf lines control → values_of control ≡ values_in lines }
-{}

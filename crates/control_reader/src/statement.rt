@@ -111,7 +111,7 @@ impl Statement {
         matches!(self, Statement::Locgau2)
     }
 
-    /// How many words it needs behind its keyword.
+    /// How many words it needs after its keyword.
     pub(crate) fn least(self) -> usize
         ensures { result ≡ least_of self }
     {
@@ -133,7 +133,7 @@ impl Statement {
     }
 }
 
-/// The kind of a line, and a cursor over the words behind its first one.
+/// The kind of a line, and a cursor over the words after its first one.
 pub(crate) fn split_line(line: &[u8]) -> (LineKind, Words)
     ensures kind { result.0 ≡ kind_of_words (words_of line.now) }
     ensures words { words_left result.1 ≡ drop 1 (words_of line.now) }

@@ -1,6 +1,6 @@
 //! A draft that takes a line, its statement and the words of it.
 ghost use Rattle.std.specs.Prelude.{◌≡◌, ◌≢◌, ◌^◌, ◌-◌, ◌<◌, ◌≤◌, ℕ, Some, None, length, OnOk, IfErr};
-ghost use Rattle.control_reader.specs.Inside.Arguments.{argument_words};
+ghost use Rattle.edt_text.specs.PlacedWords.{placed_words};
 ghost use Rattle.control_reader.specs.Keywords.{least_of};
 ghost use Rattle.control_reader.specs.WordFaults.{fault_in_words};
 ghost use Rattle.control_reader.specs.Inside.Said.{said_of};
@@ -9,7 +9,6 @@ ghost use Rattle.control_reader.specs.Inside.NextFault.{was_said, statement_faul
 ghost use Rattle.control_reader.specs.Inside.SaidLimits.{IsWithin};
 ghost use Rattle.control_reader.specs.Inside.ReadValues.{Puts, Pushes};
 
-use crate::arguments::Arguments;
 use crate::draft::Draft;
 use crate::fault::ControlCause;
 use crate::statement::{LineKind, Statement, split_line};
@@ -18,6 +17,7 @@ use crate::words::{
     read_include, read_lanes, read_margin, read_method, read_phase_ids, read_seed, read_shape,
     read_sigma,
 };
+use edt_text::PlacedWords;
 use std::alloc::Global;
 
 // The limits of this project: bytes of a line, and included files.
@@ -53,7 +53,7 @@ impl Draft {
                 Ok(())
             }
             LineKind::Of(statement) => {
-                self.take_statement(alloc, file, statement, &Arguments::new(words))
+                self.take_statement(alloc, file, statement, &PlacedWords::new(words))
             }
         }
     }
@@ -64,13 +64,13 @@ impl Draft {
         alloc: Global,
         file: u32,
         statement: Statement,
-        arguments: &Arguments,
+        arguments: &PlacedWords,
     ) -> Result<(), ControlCause>
         requires { IsWithin (said_of self.old) }
-        ensures value { OnOk result (said_of self.new ≡ with_statement statement (argument_words arguments.now) (said_of self.old)) }
-        ensures good { OnOk result (statement_fault_by (said_of self.old) file statement (argument_words arguments.now) ≡ None) }
+        ensures value { OnOk result (said_of self.new ≡ with_statement statement (placed_words arguments.now) (said_of self.old)) }
+        ensures good { OnOk result (statement_fault_by (said_of self.old) file statement (placed_words arguments.now) ≡ None) }
         ensures limits { OnOk result (IsWithin (said_of self.new)) }
-        ensures fault { IfErr result (λ cause. cause ≢ ControlCause.Memory → statement_fault_by (said_of self.old) file statement (argument_words arguments.now) ≡ Some cause) }
+        ensures fault { IfErr result (λ cause. cause ≢ ControlCause.Memory → statement_fault_by (said_of self.old) file statement (placed_words arguments.now) ≡ Some cause) }
     {
         if statement.is_nested(file) {
             return Err(ControlCause::NestedInclude);
@@ -115,14 +115,14 @@ impl Draft {
         &mut self,
         alloc: Global,
         statement: Statement,
-        arguments: &Arguments,
+        arguments: &PlacedWords,
     ) -> Result<(), ControlCause>
-        requires enough { least_of statement ≤ length (argument_words arguments.now) }
+        requires enough { least_of statement ≤ length (placed_words arguments.now) }
         requires within { IsWithin (said_of self.old) }
-        ensures value { OnOk result (said_of self.new ≡ with_statement statement (argument_words arguments.now) (said_of self.old)) }
-        ensures good { OnOk result (fault_in_words statement (argument_words arguments.now) ≡ None) }
+        ensures value { OnOk result (said_of self.new ≡ with_statement statement (placed_words arguments.now) (said_of self.old)) }
+        ensures good { OnOk result (fault_in_words statement (placed_words arguments.now) ≡ None) }
         ensures limits { OnOk result (self.new.includes ≤ 16 → IsWithin (said_of self.new)) }
-        ensures fault { IfErr result (λ cause. cause ≢ ControlCause.Memory → fault_in_words statement (argument_words arguments.now) ≡ Some cause) }
+        ensures fault { IfErr result (λ cause. cause ≢ ControlCause.Memory → fault_in_words statement (placed_words arguments.now) ≡ Some cause) }
     {
         match statement {
             Statement::Locfiles => put(&mut self.files, read_files(alloc, arguments)),
@@ -157,7 +157,7 @@ fn put<T: Drop>(place: &mut Option<T>, read: Result<T, ControlCause>) -> Result<
     Ok(())
 }
 
-/// Puts a value that was read behind the others, or hands its cause on.
+/// Puts a value that was read after the others, or hands its cause on.
 pub(crate) fn push<T: Drop>(
     list: &mut Vec<T>,
     read: Result<T, ControlCause>,

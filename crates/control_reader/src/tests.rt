@@ -20,7 +20,7 @@ const SAMPLE: [&str; 9] = [
     "LOCSEARCH OCT 1 1 1 0.01 10000 5000 0 1",
 ];
 
-// The sample with other lines in place of the one of this number, counted from 1, or behind the last.
+// The sample with other lines in place of the one of this number, counted from 1, or after the last.
 fn sample_with(alloc: Global, number: usize, lines: &str) -> Result<String, Fail> {
     let mut text = String::new(alloc);
     for (index, line) in SAMPLE.iter().enumerate() {
@@ -196,7 +196,7 @@ fn lists_are_in_the_order_of_their_statements(rt: HostRuntime) -> Result<(), Fai
     Ok(())
 }
 
-// Statements in place of line 5 of the sample, each behind its cause.
+// Statements in place of line 5 of the sample, each after its cause.
 const FILES: &str = "\
     Fields LOCFILES o NLLOC_OBS t\n\
     Name LOCFILES o* PHASES t x\n\
@@ -277,7 +277,7 @@ const SEEDS: &str = "\
     Number CONTROL 1 x\n\
 ";
 
-// Statements behind the sample.
+// Statements after the sample.
 const ADDED: &str = "\
     Fields LOCPHASEID P\n\
     Name LOCPHASEID P p\x7f\n\

@@ -1,4 +1,4 @@
-//! What the words behind a keyword say, or their first fault. Each function wants as many words as its statement needs, and reads them
+//! What the words after a keyword say, or their first fault. Each function wants as many words as its statement needs, and reads them
 //! from left to right, each number before its range.
 
 mod files;

@@ -1,12 +1,16 @@
 -- Used picks have grids, and a pick that isn't used for want of a grid has a key without a header.
-use Rattle.std.proofs.Common.{◌≡◌, ℕ, ◌<◌, Bool, true, false, List, [], ◌∷◌, ◌++◌, length, get_or, map, take, drop, Option, Some, None, IfSome, inl, inr, refl, ap, arith}
+use Rattle.std.proofs.Common.{◌≡◌, ℕ, ◌<◌, Bool, true, false, List, [], ◌∷◌, length, get_or, Option, Some, None, IfSome, inl, inr, refl, ap, arith}
 use Rattle.std.specs.Prelude.{All, unwrap_or, is_none, flat_map}
-use Rattle.std.specs.List.{list_any, position_or_len, slice_get, range_with_len}
+use Rattle.std.specs.List.{list_any, position_or_len, slice_get}
 use Rattle.std.proofs.lemmas.Bool.{cases_Bool, lt-ltb}
-use Rattle.std.proofs.lemmas.List.Concat.{flat_map-cons}
-use Rattle.std.proofs.lemmas.List.Elements.{All-nil, All-cons, All-head, All-tail, All-append, All-same, All-map, All-take, All-drop}
+use Rattle.std.proofs.lemmas.List.Elements.{All-nil, All-cons}
 use Rattle.std.proofs.lemmas.List.Folds.{list_any_none, list_any_at}
 use Rattle.std.proofs.lemmas.Option.{slice_get-get_or}
+use Rattle.text_terms.specs.Faults.{first_cause}
+use Rattle.text_terms.specs.Prefixes.{with_those_before}
+use Rattle.text_terms.proofs.CauseLaws.{first_none}
+use Rattle.text_terms.proofs.ListLaws.{All-flat_map}
+use Rattle.text_terms.proofs.PrefixLaws.{with_before}
 use Rattle.control_reader.specs.ControlValues.{ControlValues}
 use Rattle.phase_reader.specs.declared.phases.Pick.{Pick}
 use Rattle.station_table.specs.declared.keys.GridKey.{GridKey}
@@ -19,32 +23,11 @@ use Rattle.station_table.specs.declared.picks.UsedPick.{UsedPick}
 use Rattle.station_table.specs.Distances.{is_too_far}
 use Rattle.station_table.specs.Keys.{same_key, key_of, key_place, source_of}
 use Rattle.station_table.specs.Limits.{HoldsKeyOf, HoldsKeysOf}
-use Rattle.station_table.specs.Reasons.{where_so, first_reason, early_reason, is_excluded, has_no_weight, has_bad_error}
-use Rattle.station_table.specs.Using.{is_absent, is_duplicate, is_beyond, reason_by_itself, reason_of, with_those_before, used_pick, used_pick_at, if_used, if_skipped, skip, used_picks, skipped_picks}
+use Rattle.station_table.specs.Reasons.{where_so, early_reason, is_excluded, has_no_weight, has_bad_error}
+use Rattle.station_table.specs.Using.{is_absent, is_duplicate, is_beyond, reason_by_itself, reason_of, used_pick, used_pick_at, if_used, if_skipped, skip, used_picks, skipped_picks}
 use Rattle.event_assembly.specs.Answers.{has_no_grid}
 
--- what holds of each item of each list holds of each item of all
-All-flat_map : {A B : Type 0} (P : B → Type 0) (f : A → List B) (xs : List A) → All (λ x. All P (f x)) xs → All P (flat_map f xs)
-All-flat_map P f [] all = All-nil P
-All-flat_map P f (x ∷ xs) all =
-    All-same P (flat_map f (x ∷ xs)) (f x ++ flat_map f xs) (flat_map-cons f x xs)
-    (All-append P (f x) (flat_map f xs) (All-head (λ y. All P (f y)) x xs all) (All-flat_map P f xs (All-tail (λ y. All P (f y)) x xs all)))
-
--- what holds of each pick holds of each with those before it
-with_before : (Q : Pick → Type 0) (picks : List Pick) → All Q picks → All (λ (p : List Pick × Pick). Q p.1) (with_those_before picks)
-with_before Q picks all =
-    let P : List Pick × Pick → Type 0 = λ p. Q p.1 in
-    let one : ℕ → List (List Pick × Pick) = λ k. map (λ (pick : Pick). (take k picks, pick)) (take 1 (drop k picks)) in
-    All-flat_map P one (range_with_len 0 (length picks))
-    (λ i d below. All-map P (λ (pick : Pick). (take (get_or (range_with_len 0 (length picks)) i d) picks, pick))
-    (take 1 (drop (get_or (range_with_len 0 (length picks)) i d) picks))
-    (All-take Q 1 (drop (get_or (range_with_len 0 (length picks)) i d) picks) (All-drop Q (get_or (range_with_len 0 (length picks)) i d) picks all)))
-
--- no reason of a list holds
-first_none : (o : Option Reason) (rest : List (Option Reason)) → first_reason (o ∷ rest) ≡ None → (o ≡ None) × (first_reason rest ≡ None)
-first_none None rest none = (refl, none)
-first_none (Some reason) rest none = absurd cc
-
+-- a reason that doesn't hold
 not_so : (test : Bool) (reason : Reason) → where_so test reason ≡ None → test ≡ false
 not_so true reason none = absurd cc
 not_so false reason none = refl
@@ -63,7 +46,7 @@ module _ (control : ControlValues) (keys : List GridKey) (places : List Place) w
       let lacks : Option Reason = where_so (is_absent (source_of keys places (key_of control pick))) NoGrid in
       let far : Option Reason = where_so (is_too_far control (source_of keys places (key_of control pick))) Far in
       let beyond : Option Reason = where_so (is_beyond control keys places before) BeyondMax in
-      let own = (first_none (first_reason (early ∷ duplicate ∷ lacks ∷ far ∷ [])) (beyond ∷ []) none).0 in
+      let own = (first_none (first_cause (early ∷ duplicate ∷ lacks ∷ far ∷ [])) (beyond ∷ []) none).0 in
       let late = (first_none early (duplicate ∷ lacks ∷ far ∷ []) own).1 in
       let last = (first_none duplicate (lacks ∷ far ∷ []) late).1 in
       not_so (is_absent (source_of keys places (key_of control pick))) NoGrid (first_none lacks (far ∷ []) last).0
@@ -85,15 +68,15 @@ module _ (control : ControlValues) (keys : List GridKey) (places : List Place) w
 abbrev HasReason : Option Reason → Type 0
 HasReason reason = IfSome reason (λ r. has_no_grid r ≡ false)
 
-other_early : (excluded light bad : Bool) → HasReason (first_reason (where_so excluded Excluded ∷ where_so light Weight0 ∷ where_so bad ErrMag ∷ []))
+other_early : (excluded light bad : Bool) → HasReason (first_cause (where_so excluded Excluded ∷ where_so light Weight0 ∷ where_so bad ErrMag ∷ []))
 other_early true light bad = refl
 other_early false true bad = refl
 other_early false false true = refl
 other_early false false false = tt
 
 other_reason : (early : Option Reason) (duplicate absent far beyond : Bool) → HasReason early → (early ≡ None → absent ≡ false)
-    → HasReason (first_reason (
-    first_reason (early ∷ where_so duplicate Duplicate ∷ where_so absent NoGrid ∷ where_so far Far ∷ [])
+    → HasReason (first_cause (
+    first_cause (early ∷ where_so duplicate Duplicate ∷ where_so absent NoGrid ∷ where_so far Far ∷ [])
     ∷ where_so beyond BeyondMax
     ∷ []))
 other_reason (Some reason) duplicate absent far beyond other there = other

@@ -11,10 +11,11 @@ use Rattle.station_table.specs.declared.picks.Reason.TheVariants.{Duplicate, NoG
 use Rattle.station_table.specs.Distances.{is_too_far}
 use Rattle.station_table.specs.Inside.Drafts.{late_reason, is_met}
 use Rattle.station_table.specs.Keys.{key_of, key_place, source_of}
-use Rattle.station_table.specs.Reasons.{where_so, first_reason, early_reason}
+use Rattle.text_terms.specs.Faults.{first_cause}
+use Rattle.station_table.specs.Reasons.{where_so, early_reason}
 use Rattle.station_table.specs.Using.{reason_of, reason_by_itself, used_picks, is_duplicate, is_absent, is_beyond, is_full}
 use Rattle.station_table.proofs.MetLaws.{met_is_duplicate}
-use Rattle.station_table.proofs.ReasonLaws.{first_flat, first_none}
+use Rattle.text_terms.proofs.CauseLaws.{first_flat, first_none}
 use Rattle.station_table.proofs.UsingLaws.{beyond_is_full}
 
 -- what is got at a place, or nowhere past the end
@@ -52,7 +53,7 @@ module _ (control : ControlValues) (keys : List GridKey) (places : List Place) (
       ∷ where_so (is_too_far control source_now) Far
       ∷ [])
       (where_so (is_beyond control keys places before) BeyondMax ∷ [])
-      ∙ (λ j. first_reason (
+      ∙ (λ j. first_cause (
       early j
       ∷ where_so (again j) Duplicate
       ∷ where_so (is_absent (place j)) NoGrid
@@ -67,5 +68,5 @@ module _ (control : ControlValues) (keys : List GridKey) (places : List Place) (
       let source = source_of keys places (key_of control pick) in
       let others : List (Option Reason) =
       where_so (is_duplicate control before pick) Duplicate ∷ where_so (is_absent source) NoGrid ∷ where_so (is_too_far control source) Far ∷ [] in
-      first_none (early_reason control pick) others
-      (first_none (first_reason (early_reason control pick ∷ others)) (where_so (is_beyond control keys places before) BeyondMax ∷ []) none)
+      (first_none (early_reason control pick) others
+      (first_none (first_cause (early_reason control pick ∷ others)) (where_so (is_beyond control keys places before) BeyondMax ∷ []) none).0).0

@@ -7,26 +7,16 @@ use Rattle.control_reader.specs.ControlValues.{ControlValues}
 use Rattle.phase_reader.specs.declared.phases.Pick.{Pick}
 use Rattle.station_table.specs.declared.picks.Reason.{Reason}
 use Rattle.station_table.specs.declared.picks.Reason.TheVariants.{Excluded, Weight0, ErrMag}
-use Rattle.station_table.specs.Reasons.{where_so, first_reason, early_reason, is_excluded, has_no_weight, has_bad_error}
-
--- the first of a first reason and others
-pub first_flat : (xs ys : List (Option Reason)) → first_reason (first_reason xs ∷ ys) ≡ first_reason (xs ++ ys)
-first_flat [] ys = refl
-first_flat (None ∷ xs) ys = first_flat xs ys
-first_flat (Some reason ∷ xs) ys = refl
-
--- where there is none, there is none among the first
-pub first_none : (x : Option Reason) (xs : List (Option Reason)) → first_reason (x ∷ xs) ≡ None → x ≡ None
-first_none None xs e = refl
-first_none (Some reason) xs e = absurd cc
+use Rattle.text_terms.specs.Faults.{first_cause}
+use Rattle.station_table.specs.Reasons.{where_so, early_reason, is_excluded, has_no_weight, has_bad_error}
 
 -- one reason alone
-pub first_one : (test : Bool) (reason : Reason) → first_reason (where_so test reason ∷ []) ≡ where_so test reason
+pub first_one : (test : Bool) (reason : Reason) → first_cause (where_so test reason ∷ []) ≡ where_so test reason
 first_one true reason = refl
 first_one false reason = refl
 
 -- where none of three tests gives a reason, the last two fail
-none_of_three : (a b c : Bool) (r s t : Reason) → first_reason (where_so a r ∷ where_so b s ∷ where_so c t ∷ []) ≡ None → (b ≡ false) × (c ≡ false)
+none_of_three : (a b c : Bool) (r s t : Reason) → first_cause (where_so a r ∷ where_so b s ∷ where_so c t ∷ []) ≡ None → (b ≡ false) × (c ≡ false)
 none_of_three false false false r s t e = (refl, refl)
 none_of_three false false true r s t e = absurd cc
 none_of_three false true c r s t e = absurd cc

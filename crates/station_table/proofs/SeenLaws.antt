@@ -17,7 +17,7 @@ use Rattle.phase_reader.specs.declared.phases.Pick.{Pick}
 use Rattle.station_table.specs.Keys.{same_key, first_seen, key_of, keys_of, is_wanted, wanted_keys}
 use Rattle.station_table.specs.Limits.{HoldsKeyOf, HoldsKeysOf, KeysDiffer}
 use Rattle.station_table.proofs.KeyLaws.{same_key-is, same_key-equal}
-use Rattle.station_table.proofs.ListLaws.{by_push}
+use Rattle.text_terms.proofs.ListLaws.{by_push}
 
 -- keys other than one
 abbrev others : GridKey → List GridKey → List GridKey

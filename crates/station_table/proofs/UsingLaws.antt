@@ -17,8 +17,11 @@ use Rattle.station_table.specs.declared.picks.Reason.TheVariants.{BeyondMax}
 use Rattle.station_table.specs.declared.picks.UsedPick.{UsedPick}
 use Rattle.station_table.specs.declared.picks.Skip.{Skip}
 use Rattle.station_table.specs.Reasons.{where_so}
-use Rattle.station_table.specs.Using.{with_those_before, used_picks, skipped_picks, usable_count, reason_by_itself, reason_of, is_full, is_beyond, if_used, if_skipped, used_pick}
-use Rattle.station_table.proofs.ListLaws.{by_push, before_push, All-split}
+use Rattle.text_terms.specs.Prefixes.{with_those_before}
+use Rattle.station_table.specs.Using.{used_picks, skipped_picks, usable_count, reason_by_itself, reason_of, is_full, is_beyond, if_used, if_skipped, used_pick}
+use Rattle.text_terms.proofs.ListLaws.{by_push}
+use Rattle.text_terms.proofs.PrefixLaws.{before_push}
+use Rattle.station_table.proofs.ListLaws.{All-split}
 use Rattle.station_table.proofs.ReasonLaws.{first_one}
 
 -- the first ones of so many, where there is a greatest number

@@ -2,6 +2,7 @@
 use Rattle.std.specs.Prelude.{◌^◌, Bool, ◌&&◌, ◌||◌, if◌then◌else◌, List, [], ◌∷◌, Option, Some, None, pos, int_le, int_lt}
 use Rattle.std.specs.List.{list_any}
 use Rattle.std.specs.Str.{bytes_eq}
+use Rattle.text_terms.specs.Faults.{first_cause}
 use Rattle.control_reader.specs.ControlValues.{ControlValues}
 use Rattle.control_reader.specs.declared.control.Exclude.{Exclude}
 use Rattle.phase_reader.specs.declared.phases.Pick.{Pick}
@@ -12,12 +13,6 @@ use Rattle.station_table.specs.Stations.{station_of, phase_of}
 -- a reason where a test holds
 abbrev pub where_so : Bool → Reason → Option Reason
 where_so test reason = if test then Some reason else None
-
--- the first reason of a list
-abbrev pub first_reason : List (Option Reason) → Option Reason
-first_reason [] = None
-first_reason (None ∷ reasons) = first_reason reasons
-first_reason (Some reason ∷ reasons) = Some reason
 
 -- an exclusion names the station of a pick, and its phase word or its standard phase
 abbrev pub excludes : ControlValues → Pick → Exclude → Bool
@@ -40,7 +35,7 @@ has_bad_error pick = int_lt pick.error (pos 0) || int_lt (pos (10 ^ 8)) pick.err
 -- the first of these three reasons that holds
 unfoldable pub early_reason : ControlValues → Pick → Option Reason
 early_reason control pick =
-    first_reason (
+    first_cause (
     where_so (is_excluded control pick) Excluded
     ∷ where_so (has_no_weight pick) Weight0
     ∷ where_so (has_bad_error pick) ErrMag

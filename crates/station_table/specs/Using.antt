@@ -3,6 +3,7 @@ use Rattle.std.specs.Prelude.{◌≡◌, ℕ, ◌+◌, ◌*◌, Bool, true, fals
 use Rattle.std.specs.List.{list_any, find, flat_map, range_with_len}
 use Rattle.std.specs.Option.{option_map}
 use Rattle.std.specs.Str.{bytes_eq}
+use Rattle.text_terms.specs.Prefixes.{with_those_before}
 use Rattle.control_reader.specs.ControlValues.{ControlValues}
 use Rattle.control_reader.specs.declared.control.Delay.{Delay}
 use Rattle.phase_reader.specs.declared.phases.Pick.{Pick}
@@ -16,7 +17,8 @@ use Rattle.station_table.specs.declared.picks.Skip.{Skip}
 use Rattle.station_table.specs.declared.picks.UsedPick.{UsedPick}
 use Rattle.station_table.specs.Distances.{is_too_far}
 use Rattle.station_table.specs.Keys.{key_of, key_place, source_of, is_wanted}
-use Rattle.station_table.specs.Reasons.{where_so, first_reason, early_reason}
+use Rattle.text_terms.specs.Faults.{first_cause}
+use Rattle.station_table.specs.Reasons.{where_so, early_reason}
 use Rattle.station_table.specs.Stations.{station_of, phase_of}
 
 -- two picks have the same station and the same standard phase
@@ -37,16 +39,12 @@ is_absent (At x y) = false
 -- the first reason of a pick, given the picks before it in the event, but for the greatest number of used picks
 unfoldable pub reason_by_itself : ControlValues → List GridKey → List Place → List Pick → Pick → Option Reason
 reason_by_itself control keys places before pick =
-    first_reason (
+    first_cause (
     early_reason control pick
     ∷ where_so (is_duplicate control before pick) Duplicate
     ∷ where_so (is_absent (source_of keys places (key_of control pick))) NoGrid
     ∷ where_so (is_too_far control (source_of keys places (key_of control pick))) Far
     ∷ [])
-
--- the picks of an event with those before each
-abbrev pub with_those_before : List Pick → List (List Pick × Pick)
-with_those_before picks = flat_map (λ (k : ℕ). map (λ (pick : Pick). (take k picks, pick)) (take 1 (drop k picks))) (range_with_len 0 (length picks))
 
 -- how many picks of a list may be used, but for the greatest number of used picks
 unfoldable pub usable_count : ControlValues → List GridKey → List Place → List Pick → ℕ
@@ -64,7 +62,7 @@ is_beyond control keys places before = is_full control (usable_count control key
 -- the first reason of a pick, given the picks before it in the event
 unfoldable pub reason_of : ControlValues → List GridKey → List Place → List Pick → Pick → Option Reason
 reason_of control keys places before pick =
-    first_reason (
+    first_cause (
     reason_by_itself control keys places before pick
     ∷ where_so (is_beyond control keys places before) BeyondMax
     ∷ [])

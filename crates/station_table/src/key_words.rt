@@ -51,10 +51,7 @@ impl<'a> KeyWords<'a> {
     {
         let station = self.station.copy(alloc)?;
         let phase = self.phase.copy(alloc)?;
-        // such a text is refused for want of memory alone
-        let Ok(grid_phase) = Name::new(alloc, self.grid_phase.as_bytes()) else {
-            return Err(AllocError);
-        };
+        let grid_phase = Name::of_valid(alloc, self.grid_phase.as_bytes())?;
         Ok(GridKey {
             station,
             phase,

@@ -7,7 +7,7 @@ use Rattle.control_reader.specs.declared.fault.ControlCause.{ControlCause}
 use Rattle.control_reader.specs.declared.fault.ControlCause.TheVariants.{Missing}
 use Rattle.control_reader.specs.declared.fault.Keyword.{Keyword}
 use Rattle.control_reader.specs.declared.fault.Keyword.TheVariants.{Locfiles, Locgrid, Locmeth, Locgau}
-use Rattle.control_reader.specs.WordFaults.{first_cause, unless}
+use Rattle.text_terms.specs.Faults.{first_cause, unless}
 use Rattle.control_reader.specs.ControlFile.{files_in, method_in}
 use Rattle.control_reader.specs.Inside.Said.{Said}
 

@@ -8,7 +8,8 @@ use Rattle.control_reader.specs.declared.statement.LineKind.{LineKind}
 use Rattle.control_reader.specs.declared.statement.LineKind.TheVariants.{Blank, Comment, Passed, Of}
 use Rattle.control_reader.specs.ControlLines.{ControlLine, is_include, arguments_of, statements_with}
 use Rattle.control_reader.specs.Values.{include_of}
-use Rattle.control_reader.specs.WordFaults.{first_cause, unless, words_fault}
+use Rattle.text_terms.specs.Faults.{first_cause, unless}
+use Rattle.control_reader.specs.WordFaults.{words_fault}
 use Rattle.control_reader.specs.Includes.{name_fault_at}
 use Rattle.control_reader.specs.Inside.NextFault.{includes_file}
 

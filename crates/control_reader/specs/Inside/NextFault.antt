@@ -9,7 +9,8 @@ use Rattle.control_reader.specs.Keywords.{keyword_of, is_not_yet}
 use Rattle.control_reader.specs.declared.statement.LineKind.{LineKind}
 use Rattle.control_reader.specs.declared.statement.LineKind.TheVariants.{Blank, Comment, Passed, Of}
 use Rattle.control_reader.specs.ControlLines.{ControlLine, kind_of, arguments_of}
-use Rattle.control_reader.specs.WordFaults.{first_cause, unless, words_fault}
+use Rattle.text_terms.specs.Faults.{first_cause, unless}
+use Rattle.control_reader.specs.WordFaults.{words_fault}
 use Rattle.control_reader.specs.Inside.Said.{Said}
 
 -- a statement with the same keyword was said, of those that may stand once

@@ -8,7 +8,7 @@ use Rattle.control_reader.specs.ControlLines.{ControlLine, kind_of, arguments_of
 use Rattle.control_reader.specs.Values.{files_of, frame_of, method_of, sigma_of, cells_of, phase_ids_of, exclude_of, delay_of, alias_of, seed_of, count_of, shape_of}
 use Rattle.control_reader.specs.Inside.Said.{Said}
 
--- what is said with one more statement, given the words behind its keyword
+-- what is said with one more statement, given the words after its keyword
 abbrev pub with_statement : Statement → List (List ℕ) → Said → Said
 with_statement Locfiles words said = record said { files = Some (files_of words) }
 with_statement Locgrid words said = record said { frame = Some (frame_of words) }

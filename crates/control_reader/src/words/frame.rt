@@ -2,13 +2,15 @@
 ghost use Rattle.std.specs.Prelude.{◌≡◌, ◌≤◌, ◌*◌, nat_le, true, length, IfOk, IfErr, OnOk, None, Some};
 ghost use Rattle.node_boxes.specs.Frame.{IsValidFrame};
 ghost use Rattle.node_boxes.specs.Grid.{IsGrid, grid_size};
-ghost use Rattle.control_reader.specs.Inside.Arguments.{argument_words};
-ghost use Rattle.control_reader.specs.Words.{word_at, count_at};
+ghost use Rattle.edt_text.specs.PlacedWords.{placed_words};
+ghost use Rattle.text_terms.specs.Words.{word_at};
+ghost use Rattle.control_reader.specs.Words.{count_at};
 ghost use Rattle.control_reader.specs.Values.{frame_of};
 ghost use Rattle.control_reader.specs.WordFaults.{axis_fault, frame_fault};
 
-use crate::arguments::Arguments;
+use super::numbers::{millionths_from_to, millionths_in_size, whole_from_to};
 use crate::fault::ControlCause;
+use edt_text::PlacedWords;
 use node_boxes::{Frame, Grid};
 
 // Limits of this project: nodes on an axis, and millimetres of an origin and of a spacing.
@@ -20,38 +22,38 @@ const WIDEST_SPACING: i64 = 1_000_000_000;
 
 /// What `LOCGRID` says: the search grid and where it lies.
 #[tactic(auto, unfolding(crate::specs::WordFaults::frame_fault, crate::specs::Values::frame_of))]
-pub(crate) fn read_frame(arguments: &Arguments) -> Result<Frame, ControlCause>
-    requires { 9 ≤ length (argument_words arguments.now) }
-    ensures value { IfOk result (λ value. value ≡ frame_of (argument_words arguments.now)) }
-    ensures good { OnOk result (frame_fault (argument_words arguments.now) ≡ None) }
+pub(crate) fn read_frame(arguments: &PlacedWords) -> Result<Frame, ControlCause>
+    requires { 9 ≤ length (placed_words arguments.now) }
+    ensures value { IfOk result (λ value. value ≡ frame_of (placed_words arguments.now)) }
+    ensures good { OnOk result (frame_fault (placed_words arguments.now) ≡ None) }
     ensures limits { IfOk result (λ frame. IsGrid frame.grid × IsValidFrame frame) }
-    ensures fault { IfErr result (λ cause. frame_fault (argument_words arguments.now) ≡ Some cause) }
+    ensures fault { IfErr result (λ cause. frame_fault (placed_words arguments.now) ≡ Some cause) }
 {
     Ok(Frame {
         grid: read_grid(arguments)?,
-        ox: arguments.millionths_in_size(3, FARTHEST_ORIGIN)?,
-        oy: arguments.millionths_in_size(4, FARTHEST_ORIGIN)?,
-        oz: arguments.millionths_in_size(5, FARTHEST_ORIGIN)?,
-        dx: arguments.millionths_from_to(6, 1, WIDEST_SPACING)?,
-        dy: arguments.millionths_from_to(7, 1, WIDEST_SPACING)?,
-        dz: arguments.millionths_from_to(8, 1, WIDEST_SPACING)?,
+        ox: millionths_in_size(arguments, 3, FARTHEST_ORIGIN)?,
+        oy: millionths_in_size(arguments, 4, FARTHEST_ORIGIN)?,
+        oz: millionths_in_size(arguments, 5, FARTHEST_ORIGIN)?,
+        dx: millionths_from_to(arguments, 6, 1, WIDEST_SPACING)?,
+        dy: millionths_from_to(arguments, 7, 1, WIDEST_SPACING)?,
+        dz: millionths_from_to(arguments, 8, 1, WIDEST_SPACING)?,
     })
 }
 
 // The search grid of the first three words of `LOCGRID`.
 #[tactic(auto, unfolding(crate::specs::WordFaults::frame_fault))]
-fn read_grid(arguments: &Arguments) -> Result<Grid, ControlCause>
-    ensures value { IfOk result (λ grid. grid ≡ grid_size (count_at 0 (argument_words arguments.now)) (count_at 1 (argument_words arguments.now)) (count_at 2 (argument_words arguments.now))) }
-    ensures x { OnOk result (axis_fault (word_at 0 (argument_words arguments.now)) ≡ None) }
-    ensures y { OnOk result (axis_fault (word_at 1 (argument_words arguments.now)) ≡ None) }
-    ensures z { OnOk result (axis_fault (word_at 2 (argument_words arguments.now)) ≡ None) }
-    ensures nodes { OnOk result (nat_le (count_at 0 (argument_words arguments.now) * count_at 1 (argument_words arguments.now) * count_at 2 (argument_words arguments.now)) 2000000 ≡ true) }
+fn read_grid(arguments: &PlacedWords) -> Result<Grid, ControlCause>
+    ensures value { IfOk result (λ grid. grid ≡ grid_size (count_at 0 (placed_words arguments.now)) (count_at 1 (placed_words arguments.now)) (count_at 2 (placed_words arguments.now))) }
+    ensures x { OnOk result (axis_fault (word_at 0 (placed_words arguments.now)) ≡ None) }
+    ensures y { OnOk result (axis_fault (word_at 1 (placed_words arguments.now)) ≡ None) }
+    ensures z { OnOk result (axis_fault (word_at 2 (placed_words arguments.now)) ≡ None) }
+    ensures nodes { OnOk result (nat_le (count_at 0 (placed_words arguments.now) * count_at 1 (placed_words arguments.now) * count_at 2 (placed_words arguments.now)) 2000000 ≡ true) }
     ensures limits { IfOk result IsGrid }
-    ensures fault { IfErr result (λ cause. frame_fault (argument_words arguments.now) ≡ Some cause) }
+    ensures fault { IfErr result (λ cause. frame_fault (placed_words arguments.now) ≡ Some cause) }
 {
-    let x = arguments.whole_from_to(0, 1, MOST_ON_AXIS)?;
-    let y = arguments.whole_from_to(1, 1, MOST_ON_AXIS)?;
-    let z = arguments.whole_from_to(2, 1, MOST_ON_AXIS)?;
+    let x = whole_from_to(arguments, 0, 1, MOST_ON_AXIS)?;
+    let y = whole_from_to(arguments, 1, 1, MOST_ON_AXIS)?;
+    let z = whole_from_to(arguments, 2, 1, MOST_ON_AXIS)?;
     match Grid::new(x as u32, y as u32, z as u32) {
         Some(grid) => Ok(grid),
         None => Err(ControlCause::Limit),

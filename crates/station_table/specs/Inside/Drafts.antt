@@ -13,13 +13,14 @@ use Rattle.station_table.specs.declared.picks.Reason.TheVariants.{Duplicate, NoG
 use Rattle.station_table.specs.Distances.{is_too_far}
 use Rattle.station_table.specs.Keys.{key_of, key_place, is_wanted}
 use Rattle.station_table.specs.Limits.{IsPlace}
-use Rattle.station_table.specs.Reasons.{where_so, first_reason}
+use Rattle.text_terms.specs.Faults.{first_cause}
+use Rattle.station_table.specs.Reasons.{where_so}
 use Rattle.station_table.specs.Using.{is_absent, is_full, used_picks, skipped_picks, reason_of, ArePicksOf}
 
 -- the first reason but for the first three, by what is noted: an earlier pick has the key, the source is there, so many picks are used
 abbrev pub late_reason : ControlValues → Bool → Place → ℕ → Option Reason
 late_reason control is_met source used =
-    first_reason (
+    first_cause (
     where_so (control.reject_duplicates && is_met) Duplicate
     ∷ where_so (is_absent source) NoGrid
     ∷ where_so (is_too_far control source) Far

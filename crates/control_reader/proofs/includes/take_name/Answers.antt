@@ -2,7 +2,7 @@ use Rattle.std.proofs.Common.{◌<◌, ◌≤◌, length, ◌∙◌, arith}
 use Rattle.std.specs.Prelude.{vec_len}
 use Rattle.std.proofs.lemmas.Result.{err_from_is_err_and}
 use Rattle.std.proofs.lemmas.Grind.{common_steps}
-use Rattle.control_reader.specs.Inside.Arguments.{argument_words}
+use Rattle.edt_text.specs.PlacedWords.{placed_words}
 use Rattle.control_reader.specs.ControlLines.{ControlLine, arguments_of}
 use Rattle.control_reader.proofs.NameSteps.{IsIncludeLine, include_by_kind, names_other, good_other, name_long, name_few, name_words, name_limit, name_good, names_more, pushed_value, pushed_good, pushed_fault, pushed_length}
 use Rattle.control_reader.proofs.includes.take_name.Goals as goal
@@ -28,7 +28,7 @@ pub returns-then-not-has-clause-fault : goal.returns-then-not-has-clause-fault
 unfolding arguments_of
 returns-then-not-has-clause-fault c = λ other number.
     let line : ControlLine = record { file = 0; number = number; bytes = c.args.line.now } in
-    let include : IsIncludeLine line (argument_words c.new-arguments.result) = record {
+    let include : IsIncludeLine line (placed_words c.new-arguments.result) = record {
       is = include_by_kind line _ _ c.split_line-kind.ensures.kind c.includes_file.ensures ∙ c.if-not-includes_file.false;
       short = c.if-line-gt-LONGEST_LINE.false;
       same = c.new-arguments.ensures ∙ c.split_line-kind.ensures.words;
@@ -39,11 +39,11 @@ pub returns-in_err-push-clause-fault : goal.returns-in_err-push-clause-fault
 unfolding arguments_of
 returns-in_err-push-clause-fault c =
     let out = err_from_is_err_and c.from_residual.result c.from_residual.ensures.1 in
-    let enough : 1 ≤ length (argument_words c.new-arguments.result) = grind (arith, common_steps) in
+    let enough : 1 ≤ length (placed_words c.new-arguments.result) = grind (arith, common_steps) in
     rw (out.1, out.2)
     (λ other number.
     let line : ControlLine = record { file = 0; number = number; bytes = c.args.line.now } in
-    let include : IsIncludeLine line (argument_words c.new-arguments.result) = record {
+    let include : IsIncludeLine line (placed_words c.new-arguments.result) = record {
       is = include_by_kind line _ _ c.split_line-kind.ensures.kind c.includes_file.ensures ∙ c.if-not-includes_file.false;
       short = c.if-line-gt-LONGEST_LINE.false;
       same = c.new-arguments.ensures ∙ c.split_line-kind.ensures.words;
@@ -54,12 +54,12 @@ pub returns-then-len-clause-fault : goal.returns-then-len-clause-fault
 unfolding arguments_of
 returns-then-len-clause-fault c = λ other number.
     let line : ControlLine = record { file = 0; number = number; bytes = c.args.line.now } in
-    let include : IsIncludeLine line (argument_words c.new-arguments.result) = record {
+    let include : IsIncludeLine line (placed_words c.new-arguments.result) = record {
       is = include_by_kind line _ _ c.split_line-kind.ensures.kind c.includes_file.ensures ∙ c.if-not-includes_file.false;
       short = c.if-line-gt-LONGEST_LINE.false;
       same = c.new-arguments.ensures ∙ c.split_line-kind.ensures.words;
     } in
-    let enough : 1 ≤ length (argument_words c.new-arguments.result) = grind (arith, common_steps) in
+    let enough : 1 ≤ length (placed_words c.new-arguments.result) = grind (arith, common_steps) in
     let value = pushed_value c.read_include.result _ _ _ _ c.in_ok-push.ensures c.read_include.ensures.value in
     let more = pushed_length c.args.names.now.items c.push.new.list.items _ value in
     let good = pushed_good c.read_include.result _ _ _ c.in_ok-push.ensures c.read_include.ensures.good in
@@ -71,7 +71,7 @@ pub returns-clause-value : goal.returns-clause-value
 unfolding arguments_of
 returns-clause-value c = λ number.
     let line : ControlLine = record { file = 0; number = number; bytes = c.args.line.now } in
-    let include : IsIncludeLine line (argument_words c.new-arguments.result) = record {
+    let include : IsIncludeLine line (placed_words c.new-arguments.result) = record {
       is = include_by_kind line _ _ c.split_line-kind.ensures.kind c.includes_file.ensures ∙ c.if-not-includes_file.false;
       short = c.if-line-gt-LONGEST_LINE.false;
       same = c.new-arguments.ensures ∙ c.split_line-kind.ensures.words;
@@ -82,12 +82,12 @@ pub returns-clause-good : goal.returns-clause-good
 unfolding arguments_of
 returns-clause-good c = λ number.
     let line : ControlLine = record { file = 0; number = number; bytes = c.args.line.now } in
-    let include : IsIncludeLine line (argument_words c.new-arguments.result) = record {
+    let include : IsIncludeLine line (placed_words c.new-arguments.result) = record {
       is = include_by_kind line _ _ c.split_line-kind.ensures.kind c.includes_file.ensures ∙ c.if-not-includes_file.false;
       short = c.if-line-gt-LONGEST_LINE.false;
       same = c.new-arguments.ensures ∙ c.split_line-kind.ensures.words;
     } in
-    let enough : 1 ≤ length (argument_words c.new-arguments.result) = grind (arith, common_steps) in
+    let enough : 1 ≤ length (placed_words c.new-arguments.result) = grind (arith, common_steps) in
     let value = pushed_value c.read_include.result _ _ _ _ c.in_ok-push.ensures c.read_include.ensures.value in
     let more = pushed_length c.args.names.now.items c.push.new.list.items _ value in
     let good = pushed_good c.read_include.result _ _ _ c.in_ok-push.ensures c.read_include.ensures.good in

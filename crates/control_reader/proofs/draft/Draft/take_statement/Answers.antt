@@ -1,7 +1,7 @@
 use Rattle.std.proofs.Common.{◌≤◌, length, sym, ◌∙◌, ap, arith}
 use Rattle.std.proofs.lemmas.Result.{err_from_is_err_and}
 use Rattle.std.proofs.lemmas.Grind.{common_steps}
-use Rattle.control_reader.specs.Inside.Arguments.{argument_words}
+use Rattle.edt_text.specs.PlacedWords.{placed_words}
 use Rattle.control_reader.specs.Keywords.{least_of}
 use Rattle.control_reader.specs.Inside.Said.{Said, said_of}
 use Rattle.control_reader.proofs.StatementFaults.{MayStand, fault_nested, fault_not_yet, fault_repeated, fault_few, fault_words, fault_limit, fault_none}
@@ -36,7 +36,7 @@ returns-in_err-take_words-clause-fault c =
       known = sym c.is_not_yet.ensures ∙ c.if-is_not_yet.false;
       new = sym c.was_said.ensures ∙ c.if-was_said.false;
     } in
-    let enough : least_of c.args.statement ≤ length (argument_words c.args.arguments.now) = grind (arith, common_steps) in
+    let enough : least_of c.args.statement ≤ length (placed_words c.args.arguments.now) = grind (arith, common_steps) in
     let out = err_from_is_err_and c.from_residual.result c.from_residual.ensures.1 in
     rw (out.1, out.2) (λ other. fault_words _ _ _ _ _ may enough (c.in_err-take_words.ensures.fault other))
 
@@ -47,7 +47,7 @@ returns-then-self-gt-MOST_FILES-clause-fault c =
       known = sym c.is_not_yet.ensures ∙ c.if-is_not_yet.false;
       new = sym c.was_said.ensures ∙ c.if-was_said.false;
     } in
-    let enough : least_of c.args.statement ≤ length (argument_words c.args.arguments.now) = grind (arith, common_steps) in
+    let enough : least_of c.args.statement ≤ length (placed_words c.args.arguments.now) = grind (arith, common_steps) in
     λ other. fault_limit _ _ _ _ _ may enough c.in_ok-take_words.ensures.good c.requires.includes
     (ap (λ (said : Said). said.includes) c.in_ok-take_words.ensures.value) c.if-self-gt-MOST_FILES.true
 
@@ -58,6 +58,6 @@ returns-clause-good c =
       known = sym c.is_not_yet.ensures ∙ c.if-is_not_yet.false;
       new = sym c.was_said.ensures ∙ c.if-was_said.false;
     } in
-    let enough : least_of c.args.statement ≤ length (argument_words c.args.arguments.now) = grind (arith, common_steps) in
+    let enough : least_of c.args.statement ≤ length (placed_words c.args.arguments.now) = grind (arith, common_steps) in
     fault_none _ _ _ _ _ may enough c.in_ok-take_words.ensures.good (ap (λ (said : Said). said.includes) c.in_ok-take_words.ensures.value)
     c.if-self-gt-MOST_FILES.false
