@@ -6,6 +6,7 @@ ghost use Rattle.std.specs.Result.{result_err};
 ghost use Rattle.text_terms.specs.Numerals.{value_of};
 ghost use Rattle.edt_top.specs.Solve.ProblemFile.{is_number, has_minus, without_minus, signed_of, fault_in, Fixed, Whole, Observed};
 
+use edt_text::digits_within;
 use thiserror::Error;
 
 /// Why a word of a problem file is faulty.
@@ -33,14 +34,7 @@ pub fn number(word: &[u8]) -> Option<u64>
     if word.is_empty() || word.len() > MOST_DIGITS {
         return None;
     }
-    let mut value: u64 = 0;
-    for digit in word {
-        if !digit.is_ascii_digit() {
-            return None;
-        }
-        value = 10 * value + (*digit - b'0') as u64;
-    }
-    Some(value)
+    digits_within(word, u64::MAX)
 }
 
 fn has_minus(word: &[u8]) -> bool

@@ -6,10 +6,12 @@ use Rattle.event_assembly.proofs.NameLaws.{header_name-joined, file_name, named}
 use Rattle.event_assembly.proofs.names.header_name.Goals as goal
 
 pub of_valid-requires : goal.of_valid-requires
-of_valid-requires c =
-    file_name c.as_str-root.result.now c.as_str-phase.result.now c.as_str-station.result.now (codes ".time.hdr") c.as_bytes.result.now
-    (c.as_bytes.ensures.value ∙ c.in_ok-text.ensures.ok) (rw c.as_str-root.ensures.text c.requires.root)
-    (rw c.as_str-phase.ensures.text c.requires.key.grid_phase) (rw c.as_str-station.ensures.text c.requires.key.station) (lit≤ tt) refl
+of_valid-requires c = record {
+  form =
+      file_name c.as_str-root.result.now c.as_str-phase.result.now c.as_str-station.result.now (codes ".time.hdr") c.as_bytes.result.now
+      (c.as_bytes.ensures.value ∙ c.in_ok-text.ensures.ok) (rw c.as_str-root.ensures.text c.requires.root)
+      (rw c.as_str-phase.ensures.text c.requires.key.grid_phase) (rw c.as_str-station.ensures.text c.requires.key.station) (lit≤ tt) refl;
+}
 
 pub returns : goal.returns
 returns c =

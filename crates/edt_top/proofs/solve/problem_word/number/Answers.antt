@@ -1,17 +1,26 @@
-use Rattle.std.proofs.Common.{ℕ, ◌+◌, ◌*◌, ◌<◌, ◌≤◌, ◌^◌, arith}
-use Rattle.std.proofs.Math.Nat.{pow-le-pow_right}
+use Rattle.std.proofs.Common.{◌≡◌, ◌<◌, ◌≤◌, ◌^◌, ◌-◌, ℕ, List, Option, Some, None, length, true, inl, inr, if◌then◌else◌, ◌∙◌, arith}
+use Rattle.std.specs.Str.{all_ascii_digits}
+use Rattle.std.proofs.lemmas.Str.Parse.{digits_value_short}
+use Rattle.std.proofs.lemmas.Grind.{common_steps}
+use Rattle.text_terms.specs.Numerals.{value_of}
+use Rattle.text_terms.proofs.NumeralLaws.{numerals}
+use Rattle.text_terms.proofs.Cases.{by_bool}
+use Rattle.edt_text.specs.Reading.{value_within}
+use Rattle.edt_top.specs.Solve.ProblemFile.{is_number}
 use Rattle.edt_top.proofs.solve.problem_word.number.Goals as goal
 
--- a number of at most 18 digits has room for one more
-room : (i v : ℕ) → i < 19 → v < 10 ^ i → 10 * v + 10 < 2 ^ 64
-room i v few small =
-    let positive : 0 < 10 = omega arith in
-    let up : i ≤ 18 = omega arith in
-    let bound : 10 ^ i ≤ 10 ^ 18 = pow-le-pow_right positive up in
-    omega arith
+-- digits of which there are some, and at most 19, are below 2^64
+within_is : (word : List ℕ) → 0 < length word → length word ≤ 19
+    → value_within (2 ^ 64 - 1) word ≡ (if is_number word then Some (value_of word) else None)
+within_is word some few = elim (by_bool (all_ascii_digits word)) [
+  | inl digits ↦
+      let small : value_of word < 10 ^ 19 = digits_value_short numerals word 19 digits few in
+      grind (arith, common_steps)
+  | inr other ↦ grind (arith, common_steps)
+]
 
-pub overflow_mul-value : goal.overflow_mul-value
-overflow_mul-value c = let enough : 10 * c.loop-digit.value + 10 < 2 ^ 64 = room c.loop-digit.digit-index c.loop-digit.value (omega arith) c.loop-digit.invariant.small in omega arith
-
-pub overflow_add-value : goal.overflow_add-value
-overflow_add-value c = let enough : 10 * c.loop-digit.value + 10 < 2 ^ 64 = room c.loop-digit.digit-index c.loop-digit.value (omega arith) c.loop-digit.invariant.small in grind (arith, c.is_ascii_digit.ensures.value)
+pub returns : goal.returns
+returns c =
+    let some : 0 < length c.args.word.now = grind (arith, common_steps) in
+    let few : length c.args.word.now ≤ 19 = grind (arith, common_steps) in
+    c.digits_within.ensures ∙ within_is c.args.word.now some few
