@@ -22,7 +22,7 @@ use problem_file::ReadRefusal;
 use run_input::{Refusal, file_name};
 use std::alloc::Global;
 
-const MOST_BYTES: usize = 16_777_216;
+const MOST_PROBLEM_BYTES: usize = 16_777_216;
 
 // Reads the problem file of a name, and writes the text of its answer.
 pub fn solve<S: Shelf, O: Sink>(
@@ -86,7 +86,7 @@ fn read_problem_bytes<S: Shelf>(
     let Ok(file) = file_name(alloc, name) else {
         return Err(RunRefusal::Input(Refusal::Memory));
     };
-    match read_all(alloc, shelf, name, MOST_BYTES) {
+    match read_all(alloc, shelf, name, MOST_PROBLEM_BYTES) {
         Ok(bytes) => Ok(bytes),
         Err(ReadFault::Absent) => Err(RunRefusal::Input(Refusal::Absent(file))),
         Err(ReadFault::Failed) => Err(RunRefusal::Input(Refusal::Read(file))),
