@@ -13,4 +13,4 @@ pub const FARTHEST_ORIGIN: u64 = 10_000_000_000;
 pub const WIDEST_SPACING: u64 = 1_000_000_000;
 
 /// The greatest travel time at a node, in microseconds.
-pub const GREATEST_TIME: u32 = 2_000_000_000;
+pub const GREATEST_TIME: u64 = 2_000_000_000;
