@@ -3,6 +3,7 @@ use Rattle.std.proofs.Common.{◌≡◌, ◌∙◌, ℤ, ℕ, ◌+◌, ◌*◌, 
 use Rattle.std.specs.List.{slice_index_or, range_with_len}
 use Rattle.std.proofs.lemmas.Int.{ints}
 use Rattle.std.proofs.lemmas.List.FromFn.{fill_by_all, get_or-map-range_with_len, length-map-range_with_len}
+use Rattle.node_boxes.specs.declared.limits.TheConstants.{GREATEST_TIME}
 use Rattle.node_boxes.specs.declared.node_box.NodeBox.{NodeBox}
 use Rattle.node_boxes.specs.Grid.{GridSize, node_count}
 use Rattle.node_boxes.specs.GridOrder.{node_number}
@@ -24,7 +25,7 @@ pick_is field source side state row sum time noise is time_is noise_is =
     (is ∙ (ap (λ t. pos (t + noise)) time_is ∙ ap (λ n. pos (time_at field row source + n)) noise_is))
 
 -- it is valid, and early
-pub pick_early : (field : FieldTimes) (row : ℕ) (sum : ℤ) (time noise : ℕ) → sum ≡ pos (time + noise) → time ≤ 2000000000 → noise ≤ 63000 → row < length field.rows
+pub pick_early : (field : FieldTimes) (row : ℕ) (sum : ℤ) (time noise : ℕ) → sum ≡ pos (time + noise) → time ≤ GREATEST_TIME → noise ≤ 63000 → row < length field.rows
     → IsEarlyPick field (record { time = sum; weight = 1000; variance = 20000000000; row = row })
 pick_early field row sum time noise is early quiet within = record {
   valid = record { some_weight = omega arith; weight = omega arith; variance = omega arith; row = within };

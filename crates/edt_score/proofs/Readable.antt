@@ -3,6 +3,7 @@ use Rattle.std.proofs.Common.{ℕ, ℤ, List, [], ◌<◌, ◌≤◌, ◌-ℤ◌
 use Rattle.std.specs.List.{AllPairs}
 use Rattle.std.proofs.lemmas.Int.{ints}
 use Rattle.std.proofs.lemmas.List.{get_or_default}
+use Rattle.node_boxes.specs.declared.limits.TheConstants.{GREATEST_TIME}
 use Rattle.edt_score.specs.declared.problem.ProblemPick.{ProblemPick}
 use Rattle.edt_score.specs.declared.problem.Problem.{Problem}
 use Rattle.node_boxes.specs.Grid.{node_count}
@@ -34,7 +35,7 @@ IsReadable-picks field problem first valid k d below =
 
 -- the time of a row at a node is at most 2,000,000,000
 pub time_at-limit : (field : FieldTimes) (row node : ℕ) → IsField field → row < length field.rows → node < node_count field.grid
-    → time_at field row node ≤ 2000000000
+    → time_at field row node ≤ GREATEST_TIME
 time_at-limit field row node kept in_rows in_nodes =
     let whole = kept.rows row [] in_rows in
     let within : node < length (get_or field.rows row []) = rw whole.one_a_node in_nodes in

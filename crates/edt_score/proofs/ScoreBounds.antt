@@ -4,6 +4,7 @@ use Rattle.std.proofs.Math.Nat.{mul-le-mul_right}
 use Rattle.std.proofs.lemmas.Int.{ints}
 use Rattle.std.proofs.lemmas.List.Elements.{All-head, All-tail}
 use Rattle.std.proofs.lemmas.List.Sums.{sum_by-le}
+use Rattle.node_boxes.specs.declared.limits.TheConstants.{GREATEST_TIME}
 use Rattle.kernel_table.specs.declared.kernels.Shape.{Shape}
 use Rattle.kernel_table.proofs.KernelLaws.{kernel_value-le}
 use Rattle.pair_weights.specs.Scale.{IsScale}
@@ -21,7 +22,7 @@ use Rattle.edt_score.proofs.RowTotals.{pair_count-le, term-le}
 pub pair_scale-is : (a b : ProblemPick) (ta tb : ℕ) → IsScale (variance_at a ta) (variance_at b tb) (pair_scale a b ta tb)
 pair_scale-is a b ta tb = scale_of-is (variance_at a ta) (variance_at b tb)
 
-pub misfit_of-le : (oa ob : ℤ) (ta tb : ℕ) → unsigned_abs (oa -ℤ ob) ≤ 2200000000000 → ta ≤ 2000000000 → tb ≤ 2000000000
+pub misfit_of-le : (oa ob : ℤ) (ta tb : ℕ) → unsigned_abs (oa -ℤ ob) ≤ 2200000000000 → ta ≤ GREATEST_TIME → tb ≤ GREATEST_TIME
     → misfit_of oa ob ta tb ≤ 2202000000000
 misfit_of-le oa ob ta tb near first second = omega (arith, ints)
 

@@ -1,5 +1,6 @@
 -- The times from a station to each node of a grid.
 use Rattle.std.specs.Prelude.{◌≡◌, ℕ, List, ◌≤◌, ◌<◌, ◌^◌, All, length}
+use Rattle.node_boxes.specs.declared.limits.TheConstants.{GREATEST_TIME}
 use Rattle.node_boxes.specs.Grid.{GridSize, node_count}
 use Rattle.node_boxes.specs.Roots.{AreRoots}
 use Rattle.minmax_pyramid.specs.Rows.{RowTimes, row_times}
@@ -15,7 +16,7 @@ time_at field row node = row_times field row node
 -- a row of a grid has one time per node, and none is above 2,000,000,000 microseconds
 pub record IsRow (grid : GridSize) (times : List ℕ) : Type 0 where
   pub one_a_node : length times ≡ node_count grid
-  pub limit : All (λ time. time ≤ 2000000000) times
+  pub limit : All (λ time. time ≤ GREATEST_TIME) times
 
 -- every row of a field is one of its grid, a row's number fits 32 bits, and the roots are of the grid
 pub record IsField (field : FieldTimes) : Type 0 where

@@ -1,9 +1,9 @@
 //! A problem made from a number.
 ghost use Rattle.std.specs.Prelude.{◌≡◌, ℕ, ◌%◌, ◌<◌, ◌≤◌, [], All, length, map, IfOk, OnOk};
+ghost use Rattle.node_boxes.specs.declared.limits.TheConstants.{GREATEST_TIME};
 ghost use Rattle.node_boxes.specs.Grid.{node_count};
 ghost use Rattle.node_boxes.specs.GridOrder.{all_nodes, node_number};
-ghost use Rattle.edt_score.specs.Demo.{cube, demo_field, demo_picks, demo_source, draw, least_root, next_state, squared_distance, state_after, station_row, stations, time_over};
-ghost use Rattle.pair_weights.specs.LeastRoot.{IsLeastRoot};
+ghost use Rattle.edt_score.specs.Demo.{cube, demo_field, demo_picks, demo_source, draw, next_state, squared_distance, state_after, station_row, stations, time_over};
 ghost use Rattle.edt_score.specs.Problem.{IsValidProblem};
 ghost use Rattle.edt_score.specs.Inside.DemoParts.{IsEarlyPick, greatest_square, pick_from, place_drawn, time_from, times_over};
 
@@ -112,7 +112,7 @@ fn times_over(alloc: Global, side: u32) -> Result<Vec<u32>, AllocError>
     requires some { 1 ≤ side }
     requires few { side ≤ 64 }
     ensures times { IfOk result (λ times. times.items ≡ times_over side) }
-    ensures limit { IfOk result (λ times. All (λ time. time ≤ 2000000000) times.items) }
+    ensures limit { IfOk result (λ times. All (λ time. time ≤ GREATEST_TIME) times.items) }
 {
     let squares = 3 * ((side - 1) * (side - 1)) + 1;
     let mut times = Vec::with_capacity(alloc, squares as usize)?;
@@ -126,7 +126,7 @@ fn times_over(alloc: Global, side: u32) -> Result<Vec<u32>, AllocError>
 fn time_over(square: u32) -> u32
     requires few { square ≤ 11907 }
     ensures time { result ≡ time_over square }
-    ensures limit { result ≤ 2000000000 }
+    ensures limit { result ≤ GREATEST_TIME }
 {
     ceil_root(28_900_000_000 * u64::from(square)) as u32
 }
@@ -143,12 +143,12 @@ fn row_from(
     requires few { side ≤ 64 }
     requires cube { grid.now ≡ cube side }
     requires times { times.now ≡ times_over side }
-    requires limit { All (λ time. time ≤ 2000000000) times.now }
+    requires limit { All (λ time. time ≤ GREATEST_TIME) times.now }
     requires x { x < side }
     requires y { y < side }
     ensures times { IfOk result (λ row.
         row.items ≡ map (time_from grid.now (x, y, 0)) (all_nodes (node_count grid.now))) }
-    ensures limit { IfOk result (λ row. All (λ time. time ≤ 2000000000) row.items) }
+    ensures limit { IfOk result (λ row. All (λ time. time ≤ GREATEST_TIME) row.items) }
 {
     let nodes = grid.nodes();
     let mut row = Vec::with_capacity(alloc, nodes as usize)?;
@@ -216,11 +216,6 @@ fn draw_picks(
     }
     Ok(picks)
 }
-
-/// The travel time over a distance is the least number of microseconds whose square is large enough.
-pub fn demo_law()
-    ensures root { (n : ℕ) → IsLeastRoot n (least_root n) }
-{}
 
 #[cfg(test)]
 mod tests {

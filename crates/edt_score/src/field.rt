@@ -1,5 +1,6 @@
 //! The travel times of all rows over one grid.
 ghost use Rattle.std.specs.Prelude.{◌≡◌, ◌+◌, ◌^◌, ◌<◌, ◌≤◌, [], ◌∷◌, ◌++◌, All, length, IfOk, IfSome, OnErr, OnOk};
+ghost use Rattle.node_boxes.specs.declared.limits.TheConstants.{GREATEST_TIME};
 ghost use Rattle.node_boxes.specs.Boxes.{IsIn};
 ghost use Rattle.node_boxes.specs.BoxNodes.{box_nodes};
 ghost use Rattle.node_boxes.specs.Grid.{node_count};
@@ -68,7 +69,7 @@ impl Field {
         requires row { row < length self.now.rows }
         requires node { node < node_count self.now.grid }
         ensures value { result ≡ time_at self.now row node }
-        ensures limit { result ≤ 2000000000 }
+        ensures limit { result ≤ GREATEST_TIME }
     {
         self.pyramids.time(row as usize, node)
     }

@@ -1,12 +1,15 @@
 //! What holds of every score, every bound and every made problem.
 ghost use Rattle.std.specs.Prelude.{◌≡◌, ℕ, ℤ, List, [], ◌∷◌, Some, Contains, ◌*◌, ◌^◌, ◌<◌, ◌≤◌, ◌-ℤ◌, unsigned_abs};
+ghost use Rattle.node_boxes.specs.declared.limits.TheConstants.{GREATEST_TIME};
 ghost use Rattle.node_boxes.specs.declared.node_box.NodeBox.{NodeBox};
 ghost use Rattle.node_boxes.specs.Grid.{node_count};
 ghost use Rattle.kernel_table.specs.declared.kernels.Shape.{Shape};
+ghost use Rattle.pair_weights.specs.LeastRoot.{IsLeastRoot};
 ghost use Rattle.pair_weights.specs.Scale.{IsScale};
 ghost use Rattle.edt_score.specs.declared.problem.Problem.{Problem};
 ghost use Rattle.edt_score.specs.declared.problem.ProblemPick.{ProblemPick};
 ghost use Rattle.edt_score.specs.BoxBound.{box_bound};
+ghost use Rattle.edt_score.specs.Demo.{least_root};
 ghost use Rattle.edt_score.specs.Field.{FieldTimes, time_at};
 ghost use Rattle.edt_score.specs.Judging.{BoundsFall, node_box};
 ghost use Rattle.edt_score.specs.Look.{numbered, pick_time};
@@ -21,7 +24,7 @@ pub fn score_law()
     ensures scale { (a b : ProblemPick) (ta tb : ℕ)
         → IsScale (variance_at a ta) (variance_at b tb) (pair_scale a b ta tb) }
     ensures misfit { (oa ob : ℤ) (ta tb : ℕ) → unsigned_abs (oa -ℤ ob) ≤ 2200000000000
-        → ta ≤ 2000000000 → tb ≤ 2000000000 → misfit_of oa ob ta tb ≤ 2202000000000 }
+        → ta ≤ GREATEST_TIME → tb ≤ GREATEST_TIME → misfit_of oa ob ta tb ≤ 2202000000000 }
     ensures bound { (shape : Shape) (times : ℕ → ℕ → ℕ) (field : FieldTimes) (problem : Problem)
         (node : ℕ) → IsValidProblem field problem
         → score_of shape times problem.picks.items node < 9 * 10 ^ 18 }
@@ -75,4 +78,9 @@ pub fn numbered_law()
     ensures score { (shape : Shape) (field : FieldTimes) (picks : List ProblemPick) (node : ℕ)
         → score_of shape (pick_time field picks) (numbered picks) node
         ≡ score_of shape (time_at field) picks node }
+{}
+
+/// The travel time over a distance is the least number of microseconds whose square is large enough.
+pub fn demo_law()
+    ensures root { (n : ℕ) → IsLeastRoot n (least_root n) }
 {}

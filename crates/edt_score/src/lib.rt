@@ -25,11 +25,11 @@ mod totals;
 mod used_rows;
 mod values;
 
-pub use demo::{Demo, demo_law, demo_problem, draw};
+pub use demo::{Demo, demo_problem, draw};
 pub use field::Field;
 pub use judge::Judge;
 pub use kept_pairs::KeptPairs;
-pub use laws::{best_law, bound_law, box_bound_law, numbered_law, score_law};
+pub use laws::{best_law, bound_law, box_bound_law, demo_law, numbered_law, score_law};
 pub use look::{FieldLook, Look};
 pub use problem::{Problem, ProblemPick};
 pub use pyramid_judge::PyramidJudge;

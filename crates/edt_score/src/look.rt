@@ -16,6 +16,7 @@ use node_boxes::{Grid, NodeBox};
 /// for each pick and each node, and how often it was asked. No call changes the numbers or the times.
 pub trait Look {
     ghost use Rattle.std.specs.Prelude.{◌≡◌, ℕ, ◌+◌, ◌^◌, ◌<◌, ◌≤◌, length};
+    ghost use Rattle.node_boxes.specs.declared.limits.TheConstants.{GREATEST_TIME};
     ghost use Rattle.node_boxes.specs.Boxes.{IsIn};
     ghost use Rattle.node_boxes.specs.BoxNodes.{box_nodes};
     ghost use Rattle.node_boxes.specs.Grid.{node_count};
@@ -61,7 +62,7 @@ pub trait Look {
         ensures { result ≡ count self.now };
 
     ghost limit: { (look : Self) (pick node : ℕ) → pick < picks look → node < nodes look
-        → times look pick node ≤ 2000000000 };
+        → times look pick node ≤ GREATEST_TIME };
 }
 
 /// The travel times of a problem's picks by a field, each from the row of its pick.

@@ -1,5 +1,5 @@
 //! Numbers as shortest decimals, written and read.
-ghost use Rattle.std.specs.Prelude.{◌≡◌, ℕ, ◌^◌, ◌<◌, List, ◌++◌, OnOk, OnErr, decimal};
+ghost use Rattle.std.specs.Prelude.{◌≡◌, ◌++◌, OnOk, OnErr, decimal};
 ghost use Rattle.std.specs.Fmt.{signed_decimal};
 ghost use Rattle.edt_text.specs.Reading.{reading_of, value_within};
 ghost use Rattle.edt_text.specs.Inside.Digits as digits;
@@ -36,11 +36,6 @@ pub fn read_number(word: &[u8]) -> Option<u64>
         _ => digits_within(word, u64::MAX),
     }
 }
-
-/// What `push_number` appends for a number is read back as it, and no other word is read as that number.
-pub fn reads_back()
-    ensures { (n : ℕ) → n < 2 ^ 64 → (reading_of (decimal n) ≡ Some n) × ((word : List ℕ) → reading_of word ≡ Some n → word ≡ decimal n) }
-{}
 
 /// The number that digits write. `None` where a byte isn't a digit or the number passes `most`; no bytes are 0.
 pub fn digits_within(word: &[u8], most: u64) -> Option<u64>

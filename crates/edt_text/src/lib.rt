@@ -8,6 +8,7 @@
 
 mod cursor;
 mod digits;
+mod laws;
 mod naming;
 mod placing;
 mod splitting;
@@ -15,7 +16,8 @@ mod splitting;
 mod tests;
 
 pub use cursor::{Line, Lines};
-pub use digits::{digits_within, push_number, push_signed, read_number, reads_back};
+pub use digits::{digits_within, push_number, push_signed, read_number};
+pub use laws::reads_back;
 pub use naming::{Name, NameFault, are_same, is_name};
 pub use placing::PlacedWords;
 pub use splitting::{FileWords, Words};

@@ -4,6 +4,7 @@ use Rattle.std.specs.Prelude.{position}
 use Rattle.std.specs.List.{slice_set}
 use Rattle.std.proofs.lemmas.Bool.{cases_lt, le-ltb, lt-ltb}
 use Rattle.std.proofs.lemmas.List.{ext_get_or, get_or-map, get_or-set_same, get_or-set_other, length-map, length-set}
+use Rattle.node_boxes.specs.declared.limits.TheConstants.{GREATEST_TIME}
 use Rattle.time_grid.specs.Numbers.{is_over}
 use Rattle.event_assembly.specs.Inside.Reads.{Converts}
 use Rattle.event_assembly.proofs.PlaceLaws.{position_at, position_nowhere}
@@ -12,7 +13,7 @@ use Rattle.event_assembly.proofs.PlaceLaws.{position_at, position_nowhere}
 pub record Converted (f : ℕ → ℕ) (before now : List ℕ) (n : ℕ) : Type 0 where
   pub long : length now ≡ length before
   pub done : (k : ℕ) → k < n → get_or now k 0 ≡ f (get_or before k 0)
-  pub within : (k : ℕ) → k < n → f (get_or before k 0) ≤ 2000000000
+  pub within : (k : ℕ) → k < n → f (get_or before k 0) ≤ GREATEST_TIME
   pub rest : (k : ℕ) → n ≤ k → get_or now k 0 ≡ get_or before k 0
 
 -- at the start all stand as they were
@@ -26,7 +27,7 @@ Converted-none f times = record {
 
 -- one more time is converted
 pub Converted-more : (f : ℕ → ℕ) (before now after : List ℕ) (n time : ℕ) → Converted f before now n → n < length now
-    → time ≡ f (get_or now n 0) → time ≤ 2000000000 → after ≡ slice_set now n time → Converted f before after (n + 1)
+    → time ≡ f (get_or now n 0) → time ≤ GREATEST_TIME → after ≡ slice_set now n time → Converted f before after (n + 1)
 Converted-more f before now after n time kept inside is few put =
     let here : get_or now n 0 ≡ get_or before n 0 = kept.rest n (omega arith) in
     let value : time ≡ f (get_or before n 0) = is ∙ ap f here in
@@ -45,17 +46,17 @@ Converted-more f before now after n time kept inside is few put =
 
 -- the first time past the limit
 pub Converted-over : (f : ℕ → ℕ) (before now : List ℕ) (n time : ℕ) → Converted f before now n → n < length now → time ≡ f (get_or now n 0)
-    → 2000000000 < time → position is_over (map f before) ≡ Some n
+    → GREATEST_TIME < time → position is_over (map f before) ≡ Some n
 Converted-over f before now n time kept inside is over =
     let here : get_or now n 0 ≡ get_or before n 0 = kept.rest n (omega arith) in
     let value : time ≡ f (get_or before n 0) = is ∙ ap f here in
     let long = kept.long in
     let below : n < length before = omega arith in
     position_at is_over (map f before) n (rw (length-map before f) below)
-    (rw (get_or-map f before n 0 0 below, ← value) (lt-ltb 2000000000 time over))
+    (rw (get_or-map f before n 0 0 below, ← value) (lt-ltb GREATEST_TIME time over))
     (λ k less.
     let first : k < length before = omega arith in
-    rw (get_or-map f before k 0 0 first) (le-ltb 2000000000 (f (get_or before k 0)) (kept.within k less)))
+    rw (get_or-map f before k 0 0 first) (le-ltb GREATEST_TIME (f (get_or before k 0)) (kept.within k less)))
 
 -- all times are converted
 pub Converted-all : (f : ℕ → ℕ) (before now : List ℕ) (n : ℕ) → Converted f before now n → length now ≤ n → Converts (map f before) now None
@@ -67,5 +68,5 @@ Converted-all f before now n kept all =
           (λ k below.
           let short = length-map before f in
           let inside : k < length before = omega arith in
-          rw (get_or-map f before k 0 0 inside) (le-ltb 2000000000 (f (get_or before k 0)) (kept.within k (omega arith)))),
+          rw (get_or-map f before k 0 0 inside) (le-ltb GREATEST_TIME (f (get_or before k 0)) (kept.within k (omega arith)))),
     )

@@ -4,6 +4,7 @@ use Rattle.std.specs.Prelude.{⊤, All, IsErrOf, unwrap_or, position}
 use Rattle.std.specs.Option.{option_map}
 use Rattle.std.proofs.lemmas.Bool.{cases_Bool, le-ltb, ltb-false}
 use Rattle.std.proofs.lemmas.List.{get_or_default, length-map}
+use Rattle.node_boxes.specs.declared.limits.TheConstants.{GREATEST_TIME}
 use Rattle.edt_outside.specs.Shelves.{Files}
 use Rattle.grid_header.specs.declared.header.Header.{Header}
 use Rattle.node_boxes.specs.Grid.{node_count}
@@ -130,14 +131,14 @@ times_over (Some files) order control key header name text times now node ordere
     subst P named (over_by control key header name times (files name) node here aligned over)
 
 -- times of which none is past the limit are within it
-pub all_within : (times : List ℕ) → position is_over times ≡ None → All (λ time. time ≤ 2000000000) times
+pub all_within : (times : List ℕ) → position is_over times ≡ None → All (λ time. time ≤ GREATEST_TIME) times
 all_within times none k d below =
     let first : get_or times k d ≡ get_or times k 0 = get_or_default times k d 0 below in
-    rw first (ltb-false 2000000000 (get_or times k 0) (position-None is_over times none k below))
+    rw first (ltb-false GREATEST_TIME (get_or times k 0) (position-None is_over times none k below))
 
 -- and the other way round
-pub none_over : (times : List ℕ) → All (λ time. time ≤ 2000000000) times → position is_over times ≡ None
-none_over times within = position_nowhere is_over times (λ k below. le-ltb 2000000000 (get_or times k 0) (within k 0 below))
+pub none_over : (times : List ℕ) → All (λ time. time ≤ GREATEST_TIME) times → position is_over times ≡ None
+none_over times within = position_nowhere is_over times (λ k below. le-ltb GREATEST_TIME (get_or times k 0) (within k 0 below))
 
 -- the times of a key are as many as were read
 pub length-times_for : (control : ControlValues) (key : GridKey) (times : List ℕ) → length (times_for control key times) ≡ length times

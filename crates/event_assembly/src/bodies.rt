@@ -1,5 +1,6 @@
 //! The bodies of the time grids that have a row of times.
 ghost use Rattle.std.specs.Prelude.{◌≡◌, ◌≤◌, ◌<◌, ◌<ℤ◌, ◌≤ℤ◌, ◌^◌, pos, [], IfOk, IfErr, OnOk, OnSome, IfSome, All, Some, length, map, slice_get, unsigned_abs};
+ghost use Rattle.node_boxes.specs.declared.limits.TheConstants.{GREATEST_TIME};
 ghost use Rattle.edt_outside.specs.Counts.{RisesExactly};
 ghost use Rattle.edt_score.specs.Field.{IsRow};
 ghost use Rattle.grid_header.specs.Reading.{IsValidHeader};
@@ -20,16 +21,13 @@ use edt_outside::Shelf;
 use edt_score::Field;
 use edt_text::Name;
 use grid_header::Header;
-use node_boxes::roots;
+use node_boxes::{GREATEST_TIME, roots};
 use station_table::GridKey;
 use std::alloc::Global;
 use time_grid::{ByteOrder, GridFault, StreamFault, stream_times};
 
 /// How many bytes of a body are held at once.
 const PIECE: usize = 65_536;
-
-/// The most microseconds that the time at a search node may have.
-const MAX_TIME: u64 = 2_000_000_000;
 
 /// The field of the rows of keys, in order: `rows` has the number of the key of each. The first refusal decides.
 ///
@@ -202,7 +200,7 @@ fn convert_for(control: &Control, key: &GridKey, times: &mut [u32]) -> Option<u3
     requires control { IsControl control.now }
     requires key { IsConvertible (values_of control.now) key.now }
     requires few { length times.old < 2 ^ 32 }
-    requires times { All (λ time. time ≤ 2000000000) times.old }
+    requires times { All (λ time. time ≤ GREATEST_TIME) times.old }
     ensures { Converts (times_for (values_of control.now) key.now times.old) times.new result }
 {
     if key.converted {
@@ -226,12 +224,12 @@ fn ratio(control: &Control) -> u64
 fn convert(ratio: u64, times: &mut [u32]) -> Option<u32>
     requires ratio { ratio ≤ 10000000 }
     requires few { length times.old < 2 ^ 32 }
-    requires times { All (λ time. time ≤ 2000000000) times.old }
+    requires times { All (λ time. time ≤ GREATEST_TIME) times.old }
     ensures { Converts (map (by_ratio ratio) times.old) times.new result }
 {
     for node in 0..times.len() {
         let time = (u64::from(times[node]) * ratio + 500_000) / 1_000_000;
-        if time > MAX_TIME {
+        if time > GREATEST_TIME {
             return Some(node as u32);
         }
         times[node] = time as u32;

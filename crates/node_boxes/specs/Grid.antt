@@ -1,5 +1,6 @@
 -- How many nodes a grid has on its axes, and when it is a valid one.
 use Rattle.std.specs.Prelude.{ℕ, ◌≤◌, ◌*◌}
+use Rattle.node_boxes.specs.declared.limits.TheConstants.{MOST_NODES, MOST_ON_AXIS}
 
 -- the nodes on each axis of a grid
 pub record GridSize : Type 0 where
@@ -18,9 +19,9 @@ node_count g = g.x * g.y * g.z
 -- a grid has 1 to 4096 nodes on each axis and at most two million in all
 pub record IsGrid (g : GridSize) : Type 0 where
   pub x_from : 1 ≤ g.x
-  pub x_to : g.x ≤ 4096
+  pub x_to : g.x ≤ MOST_ON_AXIS
   pub y_from : 1 ≤ g.y
-  pub y_to : g.y ≤ 4096
+  pub y_to : g.y ≤ MOST_ON_AXIS
   pub z_from : 1 ≤ g.z
-  pub z_to : g.z ≤ 4096
-  pub nodes : node_count g ≤ 2000000
+  pub z_to : g.z ≤ MOST_ON_AXIS
+  pub nodes : node_count g ≤ MOST_NODES

@@ -1,5 +1,5 @@
 //! The children of a box: each axis of more than one node is halved.
-ghost use Rattle.std.specs.Prelude.{◌≡◌, ◌<◌, ◌≤◌, ◌-◌, length, slice_get};
+ghost use Rattle.std.specs.Prelude.{◌≡◌, ◌<◌, ◌≤◌, ◌-◌, length, slice_get, take};
 ghost use Rattle.node_boxes.specs.Boxes.{IsSplittable};
 ghost use Rattle.node_boxes.specs.Children.{children_of, halves};
 
@@ -64,7 +64,31 @@ impl Children {
             z1,
         })
     }
+
+    /// Lists the children from the start of a room of 8 boxes, and answers it and how many they are.
+    pub fn list(&self) -> ([NodeBox; 8], usize)
+        ensures count { result.1 ≡ length self.now }
+        ensures few { result.1 ≤ 8 }
+        ensures value { take result.1 result.0 ≡ self.now }
+    {
+        let mut room = [NO_BOX; 8];
+        let count = self.len();
+        for place in 0..count {
+            room[place] = self.get(place).unwrap_or(NO_BOX);
+        }
+        (room, count)
+    }
 }
+
+/// What stands in a room past the children of a box.
+const NO_BOX: NodeBox = NodeBox {
+    x0: 0,
+    x1: 0,
+    y0: 0,
+    y1: 0,
+    z0: 0,
+    z1: 0,
+};
 
 /// How many halves a range has.
 fn half_count(low: u32, high: u32) -> usize

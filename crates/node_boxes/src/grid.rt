@@ -1,13 +1,11 @@
 //! How many nodes a grid has, and their numbers.
-ghost use Rattle.std.specs.Prelude.{◌≡◌, ℕ, ◌+◌, ◌*◌, ◌<◌, ◌≤◌, ◌↔◌, length, IsSome, IfSome, IsTrue, Some, slice_get};
-ghost use Rattle.node_boxes.specs.Grid.{GridSize, IsGrid, grid_size, node_count};
-ghost use Rattle.node_boxes.specs.GridOrder.{IsInside, all_nodes, node_number, place_of};
+ghost use Rattle.std.specs.Prelude.{◌≡◌, ◌+◌, ◌*◌, ◌<◌, ◌≤◌, ◌↔◌, IsSome, IfSome, IsTrue};
+ghost use Rattle.node_boxes.specs.declared.limits.TheConstants.{MOST_NODES, MOST_ON_AXIS};
+ghost use Rattle.node_boxes.specs.Grid.{IsGrid, grid_size, node_count};
+ghost use Rattle.node_boxes.specs.GridOrder.{IsInside, node_number, place_of};
 
+use crate::limits::{MOST_NODES, MOST_ON_AXIS};
 use std::marker::Model;
-
-const MAX_AXIS: u32 = 4096;
-
-const MAX_NODES: u64 = 2_000_000;
 
 /// The nodes on the three axes of a grid: 1 to 4096 on each axis, and at most 2,000,000 in all.
 #[derive(Clone, Copy, Debug)]
@@ -97,31 +95,20 @@ impl Grid {
 
 /// Whether an axis may have `n` nodes.
 fn is_axis(n: u32) -> bool
-    ensures { IsTrue result ↔ ((1 ≤ n) × (n ≤ 4096)) }
+    ensures { IsTrue result ↔ ((1 ≤ n) × (n ≤ MOST_ON_AXIS)) }
 {
-    1 <= n && n <= MAX_AXIS
+    1 <= n && n <= MOST_ON_AXIS
 }
 
 /// Whether a grid may have the nodes of these axes.
 fn is_few(x: u32, y: u32, z: u32) -> bool
-    requires x_to { x ≤ 4096 }
-    requires y_to { y ≤ 4096 }
-    requires z_to { z ≤ 4096 }
-    ensures { IsTrue result ↔ (x * y * z ≤ 2000000) }
+    requires x_to { x ≤ MOST_ON_AXIS }
+    requires y_to { y ≤ MOST_ON_AXIS }
+    requires z_to { z ≤ MOST_ON_AXIS }
+    ensures { IsTrue result ↔ (x * y * z ≤ MOST_NODES) }
 {
-    u64::from(x) * u64::from(y) * u64::from(z) <= MAX_NODES
+    u64::from(x) * u64::from(y) * u64::from(z) <= MOST_NODES
 }
-
-/// Number and place of a node undo each other, and the list of all nodes is the list of their
-/// numbers.
-pub fn grid_order_law()
-    ensures number { (g : GridSize) (ix iy iz : ℕ) → IsInside g ix iy iz
-        → (node_number g ix iy iz < node_count g) × (place_of g (node_number g ix iy iz) ≡ (ix, iy, iz)) }
-    ensures place { (g : GridSize) (node : ℕ) → node < node_count g
-        → let place = place_of g node in
-        IsInside g place.0 place.1 place.2 × (node_number g place.0 place.1 place.2 ≡ node) }
-    ensures nodes { (n k : ℕ) → (length (all_nodes n) ≡ n) × (k < n → slice_get (all_nodes n) k ≡ Some k) }
-{}
 
 #[cfg(test)]
 mod tests {

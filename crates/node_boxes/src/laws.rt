@@ -1,13 +1,24 @@
 //! What holds of grid order, children, roots, the octree and walks over boxes.
-ghost use Rattle.std.specs.Prelude.{◌≡◌, ℕ, ◌*◌, ◌<◌, ◌≤◌, List, length, All, AllPairs, Contains, IsTrue, cond};
+ghost use Rattle.std.specs.Prelude.{◌≡◌, ℕ, ◌*◌, ◌<◌, ◌≤◌, List, length, slice_get, All, AllPairs, Contains, IsTrue, Some, cond};
 ghost use Rattle.node_boxes.specs.declared.node_box.NodeBox.{NodeBox};
 ghost use Rattle.node_boxes.specs.Grid.{GridSize, IsGrid, node_count};
-ghost use Rattle.node_boxes.specs.GridOrder.{IsInside};
+ghost use Rattle.node_boxes.specs.GridOrder.{IsInside, all_nodes, node_number, place_of};
 ghost use Rattle.node_boxes.specs.Boxes.{IsIn, IsNonempty, IsPartOf, IsSplittable, contains, holds, node_count_of};
 ghost use Rattle.node_boxes.specs.Children.{children_of};
 ghost use Rattle.node_boxes.specs.Roots.{AreRoots, count_within, holders, roots_of};
 ghost use Rattle.node_boxes.specs.Octree.{IsOctreeBox, IsOctreeCover};
 ghost use Rattle.node_boxes.specs.BoxNodes.{box_nodes};
+
+/// Number and place of a node undo each other, and the list of all nodes is the list of their
+/// numbers.
+pub fn grid_order_law()
+    ensures number { (g : GridSize) (ix iy iz : ℕ) → IsInside g ix iy iz
+        → (node_number g ix iy iz < node_count g) × (place_of g (node_number g ix iy iz) ≡ (ix, iy, iz)) }
+    ensures place { (g : GridSize) (node : ℕ) → node < node_count g
+        → let place = place_of g node in
+        IsInside g place.0 place.1 place.2 × (node_number g place.0 place.1 place.2 ≡ node) }
+    ensures nodes { (n k : ℕ) → (length (all_nodes n) ≡ n) × (k < n → slice_get (all_nodes n) k ≡ Some k) }
+{}
 
 /// The children of a box are 2 to 8; each has a node, lies in the box and has fewer nodes than it.
 /// A place in the box lies in exactly one child, and another place in none.

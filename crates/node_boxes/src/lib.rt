@@ -10,13 +10,15 @@ mod children;
 mod frame;
 mod grid;
 mod laws;
+mod limits;
 mod node_box;
 mod octree_roots;
 
 pub use box_nodes::BoxNodes;
 pub use children::Children;
 pub use frame::Frame;
-pub use grid::{Grid, grid_order_law};
-pub use laws::{box_nodes_law, children_law, octree_law, roots_law};
+pub use grid::Grid;
+pub use laws::{box_nodes_law, children_law, grid_order_law, octree_law, roots_law};
+pub use limits::{FARTHEST_ORIGIN, GREATEST_TIME, MOST_NODES, MOST_ON_AXIS, WIDEST_SPACING};
 pub use node_box::{BoxBound, NodeBox};
 pub use octree_roots::roots;

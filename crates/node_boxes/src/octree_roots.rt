@@ -1,6 +1,7 @@
 //! The roots of an octree: the parts of a grid by counts on its axes.
 ghost use Rattle.std.specs.Prelude.{◌≡◌, ◌<◌, ◌≤◌, ◌++◌, map, IfOk, OnOk};
 ghost use Rattle.std.specs.List.{flat_map};
+ghost use Rattle.node_boxes.specs.declared.limits.TheConstants.{MOST_ON_AXIS};
 ghost use Rattle.node_boxes.specs.BoxLists.{box_of};
 ghost use Rattle.node_boxes.specs.Roots.{AreRoots, count_within, part, parts, roots_of};
 ghost use Rattle.node_boxes.specs.Inside.AxisParts.{AreAxisParts};
@@ -86,7 +87,7 @@ fn push_row(
 /// An axis and the count of its parts, brought into range.
 fn axis_parts(nodes: u32, wanted: u32) -> AxisParts
     requires from { 1 ≤ nodes }
-    requires to { nodes ≤ 4096 }
+    requires to { nodes ≤ MOST_ON_AXIS }
     ensures nodes { result.nodes ≡ nodes }
     ensures count { result.count ≡ count_within wanted nodes }
     ensures parts { AreAxisParts result }

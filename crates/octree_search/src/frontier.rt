@@ -1,5 +1,5 @@
 //! What is known in the course of a search.
-ghost use Rattle.std.specs.Prelude.{◌≡◌, ℕ, ◌+◌, ◌^◌, ◌<◌, ◌≤◌, [], ◌∷◌, ◌++◌, length, map, take, All, IfOk, OnOk};
+ghost use Rattle.std.specs.Prelude.{◌≡◌, ℕ, ◌+◌, ◌^◌, ◌<◌, ◌≤◌, [], ◌∷◌, ◌++◌, length, map, All, IfOk, OnOk};
 ghost use Rattle.std.specs.List.Sorted.{IsPermutation};
 ghost use Rattle.node_boxes.specs.Boxes.{IsSplittable};
 ghost use Rattle.node_boxes.specs.Children.{children_of};
@@ -11,7 +11,7 @@ use crate::arena::{Met, open_at};
 use crate::nearness::threshold;
 use crate::queue::{Queue, Waiting};
 use edt_score::Judge;
-use node_boxes::{Children, NodeBox};
+use node_boxes::NodeBox;
 use std::alloc::{AllocError, Global};
 
 /// The boxes that were met, those of them that wait to be opened, and the best score that a single box told so far.
@@ -149,35 +149,9 @@ impl Frontier {
             self.new.queue) }
     {
         let first_child = self.met.len() as u32;
-        let mut room = [NO_BOX; 8];
-        let count = list_children(&top.area.children(), &mut room);
+        let (room, count) = top.area.children().list();
         self.meet_all(judge, margin, &room[..count])?;
         open_at(&mut self.met, top.place, first_child);
         Ok(())
     }
-}
-
-/// What stands in places past the children of a box.
-const NO_BOX: NodeBox = NodeBox {
-    x0: 0,
-    x1: 0,
-    y0: 0,
-    y1: 0,
-    z0: 0,
-    z1: 0,
-};
-
-// Lists the children of a box, and answers how many there are.
-fn list_children(children: &Children, into: &mut [NodeBox]) -> usize
-    requires { length into.old ≡ 8 }
-    ensures count { result ≡ length children.now }
-    ensures few { result ≤ 8 }
-    ensures same_length { length into.new ≡ 8 }
-    ensures value { take result into.new ≡ children.now }
-{
-    let count = children.len();
-    for place in 0..count {
-        into[place] = children.get(place).unwrap_or(NO_BOX);
-    }
-    count
 }

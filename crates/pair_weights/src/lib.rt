@@ -4,10 +4,14 @@
 //! are this project's own. No call takes memory or refuses.
 #![tactic(auto)]
 
-ghost use Rattle.std.specs.Prelude.{◌≡◌, ℕ, ◌+◌, ◌*◌, ◌^◌, ◌≤◌};
+ghost use Rattle.std.specs.Prelude.{◌≡◌, ◌+◌, ◌*◌, ◌^◌, ◌≤◌};
 ghost use Rattle.pair_weights.specs.LeastRoot.{IsLeastRoot};
 ghost use Rattle.pair_weights.specs.Scale.{IsScale, scale_of};
 ghost use Rattle.pair_weights.specs.Weight.{weight_of};
+
+mod laws;
+
+pub use laws::{scale_law, weight_law};
 
 /// The least number whose square is at least `n`.
 pub fn ceil_root(n: u64) -> u64
@@ -39,18 +43,6 @@ pub fn weight(pa: u32, pb: u32, s: u64) -> u64
 {
     u64::from(pa) * u64::from(pb) * 65536 / s
 }
-
-/// The scale is what its definition says, and it never falls where a variance grows.
-pub fn scale_law()
-    ensures least { (va vb : ℕ) → IsScale va vb (scale_of va vb) }
-    ensures never_falls { (va vb wa wb : ℕ) → va ≤ wa → vb ≤ wb → scale_of va vb ≤ scale_of wa wb }
-{}
-
-/// The weight never rises where the scale grows.
-pub fn weight_law()
-    ensures never_rises { (pa pb s t : ℕ) → 1000 ≤ s → s ≤ t → weight_of pa pb t ≤ weight_of pa pb s }
-    ensures bound { (pa pb s : ℕ) → pa ≤ 2000 → pb ≤ 2000 → 1000 ≤ s → weight_of pa pb s ≤ 262144000 }
-{}
 
 #[cfg(test)]
 mod tests {

@@ -1,5 +1,5 @@
 //! Meeting boxes: a judge is asked for their bounds, and they wait. Room for them is made before.
-ghost use Rattle.std.specs.Prelude.{◌≡◌, ◌+◌, ◌^◌, ◌<◌, ◌≤◌, [], ◌∷◌, ◌++◌, All, OnErr, OnOk, length, map, take, vec_capacity, vec_len};
+ghost use Rattle.std.specs.Prelude.{◌≡◌, ◌+◌, ◌^◌, ◌<◌, ◌≤◌, [], ◌∷◌, ◌++◌, All, OnErr, OnOk, length, map, vec_capacity, vec_len};
 ghost use Rattle.node_boxes.specs.Boxes.{IsSplittable};
 ghost use Rattle.node_boxes.specs.Children.{children_of};
 ghost use Rattle.node_boxes.specs.Octree.{IsOctreeBox};
@@ -7,7 +7,7 @@ ghost use Rattle.octree_search.specs.Arena.{IsOpened, fresh, waiting};
 ghost use Rattle.search_lanes.specs.Inside.Slots.{waits_from};
 
 use edt_score::Judge;
-use node_boxes::{Children, NodeBox};
+use node_boxes::NodeBox;
 use octree_search::{Met, Waiting, open_at};
 use std::alloc::AllocError;
 
@@ -41,8 +41,7 @@ pub(crate) fn open_box<J: Judge>(
     ensures met_refused { OnErr result (met.new.items ≡ met.old.items) }
     ensures boxes_refused { OnErr result (boxes.new.items ≡ boxes.old.items) }
 {
-    let mut room = [NO_BOX; 8];
-    let count = list_children(&held.area.children(), &mut room);
+    let (room, count) = held.area.children().list();
     met.reserve(count)?;
     boxes.reserve(count)?;
     let first_child = met.len() as u32;
@@ -128,29 +127,4 @@ fn put<T: Drop>(items: &mut Vec<T>, item: T)
     ensures room { vec_capacity items.old ≤ vec_capacity items.new }
 {
     let _ = items.push(item);
-}
-
-// What stands in places past the children of a box.
-const NO_BOX: NodeBox = NodeBox {
-    x0: 0,
-    x1: 0,
-    y0: 0,
-    y1: 0,
-    z0: 0,
-    z1: 0,
-};
-
-// Lists the children of a box, and answers how many there are.
-fn list_children(children: &Children, into: &mut [NodeBox]) -> usize
-    requires { length into.old ≡ 8 }
-    ensures count { result ≡ length children.now }
-    ensures few { result ≤ 8 }
-    ensures same_length { length into.new ≡ 8 }
-    ensures value { take result into.new ≡ children.now }
-{
-    let count = children.len();
-    for place in 0..count {
-        into[place] = children.get(place).unwrap_or(NO_BOX);
-    }
-    count
 }

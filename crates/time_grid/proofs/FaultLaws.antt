@@ -2,6 +2,7 @@
 use Rattle.std.proofs.Common.{◌≡◌, ℕ, ◌*◌, ◌<◌, List, length, get_or, Option, Some, None, option_map, position, arith, refl}
 use Rattle.std.proofs.lemmas.Bool.{lt-ltb, le-ltb}
 use Rattle.std.proofs.lemmas.List.FromFn.{length-map-range_with_len, get_or-map-range_with_len}
+use Rattle.node_boxes.specs.declared.limits.TheConstants.{GREATEST_TIME}
 use Rattle.time_grid.specs.declared.numbers.ByteOrder.{ByteOrder}
 use Rattle.time_grid.specs.declared.faults.GridFault.TheVariants.{Short, Long, TimeLimit}
 use Rattle.time_grid.specs.Bodies.{body_fault}
@@ -22,12 +23,12 @@ pub first_over_is : (order : ByteOrder) (bytes : List ℕ) (n : ℕ) (over : Opt
 first_over_is order bytes n None none =
     let long = length-body_times order bytes n in
     position_is_none is_over (body_times order bytes n) (λ k below.
-    rw (body_times-at order bytes n k (omega arith)) (le-ltb 2000000000 (number_at order bytes k) (none k (omega arith))))
+    rw (body_times-at order bytes n k (omega arith)) (le-ltb GREATEST_TIME (number_at order bytes k) (none k (omega arith))))
 first_over_is order bytes n (Some first) (inside, over, none) =
     let long = length-body_times order bytes n in
     position_is is_over (body_times order bytes n) first (omega arith)
-    (rw (body_times-at order bytes n first inside) (lt-ltb 2000000000 (number_at order bytes first) over))
-    (λ k below. rw (body_times-at order bytes n k (omega arith)) (le-ltb 2000000000 (number_at order bytes k) (none k below)))
+    (rw (body_times-at order bytes n first inside) (lt-ltb GREATEST_TIME (number_at order bytes first) over))
+    (λ k below. rw (body_times-at order bytes n k (omega arith)) (le-ltb GREATEST_TIME (number_at order bytes k) (none k below)))
 
 pub fault_short : (order : ByteOrder) (bytes : List ℕ) (n : ℕ) → length bytes < 4 * n → body_fault order bytes n ≡ Some Short
 unfolding body_fault

@@ -1,5 +1,6 @@
 -- The numbers of a body.
 use Rattle.std.specs.Prelude.{ℕ, ◌+◌, ◌*◌, ◌≤◌, Bool, nat_lt, List, map, slice_index}
+use Rattle.node_boxes.specs.declared.limits.TheConstants.{GREATEST_TIME}
 use Rattle.node_boxes.specs.GridOrder.{all_nodes}
 use Rattle.time_grid.specs.declared.numbers.ByteOrder.{ByteOrder}
 use Rattle.time_grid.specs.declared.numbers.ByteOrder.TheVariants.{Little, Big}
@@ -18,10 +19,10 @@ number_at order bytes k =
 unfoldable pub body_times : ByteOrder → List ℕ → ℕ → List ℕ
 body_times order bytes n = map (number_at order bytes) (all_nodes n)
 
--- a time is at most 2,000,000,000 microseconds
+-- a time is within its limit
 abbrev pub IsTime : ℕ → Type 0
-IsTime time = time ≤ 2000000000
+IsTime time = time ≤ GREATEST_TIME
 
 -- a time is past that limit
 abbrev pub is_over : ℕ → Bool
-is_over time = nat_lt 2000000000 time
+is_over time = nat_lt GREATEST_TIME time

@@ -2,6 +2,7 @@
 ghost use Rattle.std.specs.Prelude.{◌≡◌, ◌↔◌, [], ◌+◌, ◌*◌, ◌≤◌, All, None, Some, length, slice_get, IsNone, IfSome, OnSome, IfOk, OnOk, IsErrOf};
 ghost use Rattle.edt_outside.specs.Counts.{RisesExactly};
 ghost use Rattle.grid_header.specs.Reading.{IsValidHeader};
+ghost use Rattle.node_boxes.specs.declared.limits.TheConstants.{GREATEST_TIME};
 ghost use Rattle.node_boxes.specs.Frame.{IsValidFrame};
 ghost use Rattle.node_boxes.specs.Grid.{node_count};
 ghost use Rattle.time_grid.specs.Alignment.{first_unaligned_axis, search_times, time_grid_size};
@@ -84,7 +85,7 @@ impl TimeGrid {
     /// The time of a node, or `None` exactly past the last node.
     pub fn at(&self, node: u32) -> Option<u32>
         ensures value { result ≡ slice_get self.now.times node }
-        ensures limit { IfSome result (λ time. time ≤ 2000000000) }
+        ensures limit { IfSome result (λ time. time ≤ GREATEST_TIME) }
         ensures end { IsNone result ↔ node_count (time_grid_size self.now.header) ≤ node }
     {
         self.times.get(node as usize).copied()
@@ -100,7 +101,7 @@ impl TimeGrid {
         ensures aligned { IfOk result (λ _. first_unaligned_axis self.now.header frame.now ≡ None) }
         ensures axis { (axis : Axis) → IsErrOf result (AlignFault.NotAligned axis) → first_unaligned_axis self.now.header frame.now ≡ Some axis }
         ensures one_a_node { IfOk result (λ times. length times.items ≡ node_count frame.now.grid) }
-        ensures limit { IfOk result (λ times. All (λ time. time ≤ 2000000000) times.items) }
+        ensures limit { IfOk result (λ times. All (λ time. time ≤ GREATEST_TIME) times.items) }
     {
         match Selection::of_search_nodes(&self.header, frame) {
             Ok(selection) => Ok(selected_times(alloc, &self.times, selection)?),

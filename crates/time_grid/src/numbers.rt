@@ -4,9 +4,7 @@ ghost use Rattle.time_grid.specs.Numbers.{number_at, number_of_four};
 ghost use Rattle.time_grid.specs.Inside.Judging.{IsFirstOver};
 
 use byteorder::{BigEndian, ByteOrder as Endian, LittleEndian};
-
-/// The most microseconds that a node's time may have.
-const MAX_TIME: u32 = 2_000_000_000;
+use node_boxes::GREATEST_TIME;
 
 /// The order in which a number's bytes stand in a body: the lowest first, or the highest first.
 #[derive(Clone, Copy, Debug, PartialEq, Eq)]
@@ -38,7 +36,7 @@ pub(crate) fn first_over(order: ByteOrder, piece: &[u8]) -> Option<usize>
     ensures { IsFirstOver (number_at order piece.now) (length piece.now / 4) result }
 {
     for k in 0..piece.len() / 4 {
-        if number_at(order, piece, k) > MAX_TIME {
+        if u64::from(number_at(order, piece, k)) > GREATEST_TIME {
             return Some(k);
         }
     }

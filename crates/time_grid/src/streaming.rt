@@ -2,6 +2,7 @@
 ghost use Rattle.std.specs.Prelude.{◌≡◌, [], ◌+◌, ◌*◌, ◌≤◌, All, None, Some, length, IfSome, OnSome, OnOk, IsErrOf};
 ghost use Rattle.edt_outside.specs.Counts.{RisesExactly};
 ghost use Rattle.grid_header.specs.Reading.{IsValidHeader};
+ghost use Rattle.node_boxes.specs.declared.limits.TheConstants.{GREATEST_TIME};
 ghost use Rattle.node_boxes.specs.Frame.{IsValidFrame};
 ghost use Rattle.node_boxes.specs.Grid.{node_count};
 ghost use Rattle.time_grid.specs.Alignment.{first_unaligned_axis, search_times, time_grid_size};
@@ -45,7 +46,7 @@ pub fn stream_times<S: Shelf>(
     ensures aligned { OnOk result (first_unaligned_axis header.now frame.now ≡ None) }
     ensures axis { (axis : Axis) → IsErrOf result (StreamFault.NotAligned axis) → first_unaligned_axis header.now frame.now ≡ Some axis }
     ensures one_a_node { length into.new ≡ node_count frame.now.grid }
-    ensures limit { OnOk result (All (λ time. time ≤ 2000000000) into.new) }
+    ensures limit { OnOk result (All (λ time. time ≤ GREATEST_TIME) into.new) }
     ensures ended { OnSome (S.files shelf.old) (OnOk result (S.left shelf.new ≡ Some [])) }
     ensures faults { RisesExactly (stream_failed result) (S.faults shelf.old) (S.faults shelf.new) }
     ensures misses { RisesExactly (stream_absent result) (S.misses shelf.old) (S.misses shelf.new) }

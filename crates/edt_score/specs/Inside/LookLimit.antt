@@ -2,6 +2,7 @@
 use Rattle.std.specs.Prelude.{◌≡◌, ℕ, [], ◌<◌, ◌≤◌, pos, length, Option, option_map, unwrap_or}
 use Rattle.std.proofs.Common.{get_or, subst, sym, ap}
 use Rattle.std.proofs.lemmas.Option.{slice_get-get_or}
+use Rattle.node_boxes.specs.declared.limits.TheConstants.{GREATEST_TIME}
 use Rattle.node_boxes.specs.Grid.{node_count}
 use Rattle.edt_score.specs.declared.look.FieldLook.{FieldLook}
 use Rattle.edt_score.specs.declared.problem.ProblemPick.{ProblemPick}
@@ -13,7 +14,7 @@ no_pick = record { time = pos 0; weight = 0; variance = 0; row = 0 }
 
 pub look_limit : (look : FieldLook) (pick node : ℕ) → pick < length (look_problem look).picks.items
     → node < node_count (look_field look).grid
-    → pick_time (look_field look) (look_problem look).picks.items pick node ≤ 2000000000
+    → pick_time (look_field look) (look_problem look).picks.items pick node ≤ GREATEST_TIME
 look_limit look pick node in_picks in_nodes =
     let picks = (look_problem look).picks.items in
     let rows = (look_field look).rows in

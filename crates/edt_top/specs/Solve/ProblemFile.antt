@@ -1,6 +1,7 @@
 -- The problem file of `solve`: its words, what form each has to have, and its first faulty word.
 use Rattle.std.specs.Prelude.{ℕ, ◌+◌, ◌-◌, ◌*◌, ◌/◌, ◌%◌, min, Bool, ◌==◌, ◌&&◌, nat_lt, nat_le, if◌then◌else◌, List, [], length, drop, slice_index, slice_get, Option, Some, None, ℤ, pos, neg_ℤ, ◌-ℤ◌, codes, unsigned_abs, unwrap_or}
 use Rattle.std.specs.Str.{bytes_eq}
+use Rattle.node_boxes.specs.declared.limits.TheConstants.{GREATEST_TIME, MOST_ON_AXIS}
 use Rattle.text_terms.specs.Numerals.{is_numeral, value_of}
 use Rattle.text_terms.specs.Faults.{HasNoFault, IsFirstFault}
 use Rattle.edt_top.specs.declared.solve.problem_word.ProblemCause.{ProblemCause}
@@ -74,11 +75,11 @@ abbrev pub form_at : Words → ℕ → WordForm
 form_at words k =
     if k == 0 then Fixed (codes "EDTPROBLEM")
     else if k == 1 then Fixed (codes "1")
-    else if nat_lt k 4 then Whole 1 4096
-    else if k == 4 then Whole 1 (min 4096 (most_within 65536 (number_at words 2 * number_at words 3)))
+    else if nat_lt k 4 then Whole 1 MOST_ON_AXIS
+    else if k == 4 then Whole 1 (min MOST_ON_AXIS (most_within 65536 (number_at words 2 * number_at words 3)))
     else if k == 5 then Whole 2 (min 256 (most_within 1000000 (nodes_in words)))
     else if nat_lt k (first_time words) then pick_form (signed_at words 6) ((k - 6) % 3)
-    else if nat_lt k (words_wanted words) then Whole 0 2000000000
+    else if nat_lt k (words_wanted words) then Whole 0 GREATEST_TIME
     else Nothing
 
 -- an observed time is at most 10^12 microseconds in size, and at most 1,100,000,000,000 from the first pick's

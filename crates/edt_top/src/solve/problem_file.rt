@@ -1,6 +1,7 @@
 //! The reading of a problem file: a grid, the picks, and a row of travel times for each pick.
 ghost use Rattle.std.specs.Prelude.{◌≡◌, ◌+◌, ◌*◌, ◌<◌, ◌≤◌, ◌^◌, IfOk, OnOk, IfErr, All, [], None, Some, ◌==◌, if◌then◌else◌, slice_get};
 ghost use Rattle.std.specs.Option.{option_map};
+ghost use Rattle.node_boxes.specs.declared.limits.TheConstants.{GREATEST_TIME};
 ghost use Rattle.text_terms.specs.Words.{file_words};
 ghost use Rattle.edt_top.specs.Solve.ProblemFile.{signed_at, nodes_in, picks_in, first_time, words_wanted, IsProblemFile};
 ghost use Rattle.edt_top.specs.Inside.ProblemCursor.{IsSound, Names};
@@ -12,11 +13,11 @@ ghost use Rattle.edt_top.specs.Inside.ProblemParts.{IsHead, NamesFault, IsReadFr
 
 use crate::solve::problem_cursor::{Cursor, ProblemFault};
 use edt_score::{Field, Problem, ProblemPick};
-use node_boxes::{Grid, roots};
+use node_boxes::{GREATEST_TIME, Grid, roots};
 use std::alloc::{AllocError, AllocFailed, Global};
 use thiserror::Error;
 
-const MOST_ON_AXIS: u64 = 4096;
+const MOST_ON_AXIS: u64 = node_boxes::MOST_ON_AXIS as u64;
 
 const MOST_NODES: u64 = 65_536;
 
@@ -27,8 +28,6 @@ const MOST_TIMES: u64 = 1_000_000;
 const MOST_WEIGHT: u64 = 2000;
 
 const MOST_VARIANCE: u64 = 20_000_000_000_000_000;
-
-const MOST_TRAVEL_TIME: u64 = 2_000_000_000;
 
 /// A problem file, read.
 #[derive(Drop)]
@@ -181,7 +180,7 @@ fn read_row(
     requires at { cursor.old.place ≡ first_time cursor.old.words + row * nodes }
     requires sound { IsSound cursor.old }
     ensures times { IfOk result (λ times. times.items ≡ row_in cursor.old.words row) }
-    ensures limit { IfOk result (λ times. All (λ time. time ≤ 2000000000) times.items) }
+    ensures limit { IfOk result (λ times. All (λ time. time ≤ GREATEST_TIME) times.items) }
     ensures sound { OnOk result (IsSound cursor.new) }
     ensures moved { OnOk result (cursor.new
         ≡ record cursor.old { place = first_time cursor.old.words + (row + 1) * nodes }) }
@@ -189,7 +188,7 @@ fn read_row(
 {
     let mut times = Vec::with_capacity(alloc, nodes as usize)?;
     for _node in 0..nodes {
-        let time = cursor.whole(0, MOST_TRAVEL_TIME)?;
+        let time = cursor.whole(0, GREATEST_TIME)?;
         times.push(time as u32)?;
     }
     Ok(times)

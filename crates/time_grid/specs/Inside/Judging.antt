@@ -1,5 +1,6 @@
 -- How a body that comes piece by piece is judged.
 use Rattle.std.specs.Prelude.{◌≡◌, ⊤, ℕ, ◌+◌, ◌<◌, ◌≤◌, List, [], drop, length, slice_index, Option, Some, None, Result, Ok, Err}
+use Rattle.node_boxes.specs.declared.limits.TheConstants.{GREATEST_TIME}
 use Rattle.edt_outside.specs.declared.faults.OpenFault.{OpenFault}
 use Rattle.edt_outside.specs.declared.faults.OpenFault.TheVariants.{Absent as open_absent, Failed as open_failed, Memory as open_memory}
 use Rattle.time_grid.specs.declared.faults.GridFault.{GridFault}
@@ -7,8 +8,8 @@ use Rattle.time_grid.specs.declared.faults.GridFault.TheVariants.{Absent, Failed
 
 -- the first of n times that is past the limit, or none
 abbrev pub IsFirstOver : (ℕ → ℕ) → ℕ → Option ℕ → Type 0
-IsFirstOver times n None = (k : ℕ) → k < n → times k ≤ 2000000000
-IsFirstOver times n (Some first) = (first < n) × (2000000000 < times first) × ((k : ℕ) → k < first → times k ≤ 2000000000)
+IsFirstOver times n None = (k : ℕ) → k < n → times k ≤ GREATEST_TIME
+IsFirstOver times n (Some first) = (first < n) × (GREATEST_TIME < times first) × ((k : ℕ) → k < first → times k ≤ GREATEST_TIME)
 
 -- the answer for the body of a grid of n nodes that ended after `passed` whole numbers, of which `over` is the first past the limit
 abbrev pub JudgesBody : ℕ → ℕ → Option ℕ → Result ⊤ GridFault → Type 0

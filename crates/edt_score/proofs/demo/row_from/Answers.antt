@@ -1,5 +1,6 @@
 use Rattle.std.proofs.Common.{◌≡◌, ◌∙◌, ◌<◌, ◌≤◌, All, ap, sym, subst, length}
 use Rattle.std.proofs.lemmas.List.Elements.{All-push}
+use Rattle.node_boxes.specs.declared.limits.TheConstants.{GREATEST_TIME}
 use Rattle.edt_score.specs.Demo.{Place, squared_distance, time_over}
 use Rattle.edt_score.specs.Inside.DemoParts.{time_from}
 use Rattle.edt_score.proofs.DemoLists.{one_more}
@@ -18,6 +19,6 @@ loop-node-preserved c =
     record {
       times = one_more (time_from c.args.grid.now (c.args.x, c.args.y, 0)) c.loop-node.node c.loop-node.row.items _ _ c.loop-node.invariant.times c.in_ok-push.ensures.items
           (looked_up c.args.side c.squared_distance-square.result c.args.times.now _ c.requires.times c.squared_distance-square.ensures.limit ∙ ap time_over place);
-      limit = subst (All (λ time. time ≤ 2000000000)) (sym c.in_ok-push.ensures.items)
-          (All-push (λ time. time ≤ 2000000000) c.loop-node.row.items _ c.loop-node.invariant.limit (c.requires.limit c.squared_distance-square.result _ within));
+      limit = subst (All (λ time. time ≤ GREATEST_TIME)) (sym c.in_ok-push.ensures.items)
+          (All-push (λ time. time ≤ GREATEST_TIME) c.loop-node.row.items _ c.loop-node.invariant.limit (c.requires.limit c.squared_distance-square.result _ within));
     }

@@ -11,4 +11,4 @@ meet_all-requires-clause-tree g c =
     let a = c.args.held.now.area in
     let all : All (IsOctreeBox roots) (children_of a) =
     All-from_recursion (IsOctreeBox roots) (children_of a) (octree_children roots a c.requires.tree c.requires.several.several (children_of a) (λ b at. at)) in
-    subst (All (IsOctreeBox roots)) (sym (rw c.children.ensures at c.list_children-count.ensures.value)) all
+    subst (All (IsOctreeBox roots)) (sym (rw c.children.ensures at c.list-count.ensures.value)) all

@@ -3,6 +3,7 @@ use Rattle.std.specs.List.{range_with_len}
 use Rattle.std.proofs.Math.Nat.{mul-le-mul_right}
 use Rattle.std.proofs.lemmas.List.Elements.{All-push}
 use Rattle.std.proofs.lemmas.List.FromFn.{map-range_with_len_more}
+use Rattle.node_boxes.specs.declared.limits.TheConstants.{GREATEST_TIME}
 use Rattle.edt_top.specs.Solve.ProblemFile.{Words, number_at, picks_in, nodes_in, first_time}
 use Rattle.edt_top.specs.Inside.ProblemCursor.{Reading}
 use Rattle.edt_top.specs.Solve.ProblemValues.{time_in}
@@ -36,7 +37,7 @@ whole-requires-clause-form c =
 pub loop-node-preserved : goal.loop-node-preserved
 loop-node-preserved c = record {
   times = one_more c.args.cursor.now.words c.loop-node.cursor c.args.row c.loop-node._node c.loop-node.times.items _ _ c.loop-node.invariant.times c.in_ok-push.ensures.items c.loop-node.invariant.moved c.in_ok-time.ensures.value;
-  limit = subst (All (λ time. time ≤ 2000000000)) (sym c.in_ok-push.ensures.items) (All-push (λ time. time ≤ 2000000000) c.loop-node.times.items c.in_ok-time.time c.loop-node.invariant.limit c.in_ok-time.ensures.greatest);
+  limit = subst (All (λ time. time ≤ GREATEST_TIME)) (sym c.in_ok-push.ensures.items) (All-push (λ time. time ≤ GREATEST_TIME) c.loop-node.times.items c.in_ok-time.time c.loop-node.invariant.limit c.in_ok-time.ensures.greatest);
   moved = moved_to c.loop-node.cursor _ c.args.cursor.now.words _ _ c.loop-node.invariant.moved c.in_ok-time.ensures.moved (omega arith);
   sound = c.in_ok-time.ensures.sound;
 }

@@ -1,5 +1,5 @@
 use Rattle.edt_score.proofs.DemoRoots.{least_root_is}
-use Rattle.edt_score.proofs.demo.demo_law.Goals as goal
+use Rattle.edt_score.proofs.laws.demo_law.Goals as goal
 
 pub returns : goal.returns
 returns c = record { root = λ n. least_root_is n }

@@ -1,6 +1,6 @@
 use Rattle.std.proofs.lemmas.List.FromFn.{length-range_with_len}
 use Rattle.node_boxes.proofs.Order.{node_number-below, place_of-number, place_of-inside, number-place_of, slice_get-all_nodes}
-use Rattle.node_boxes.proofs.grid.grid_order_law.Goals as goal
+use Rattle.node_boxes.proofs.laws.grid_order_law.Goals as goal
 
 pub returns-clause-number : goal.returns-clause-number
 returns-clause-number c g ix iy iz inside =
