@@ -3,7 +3,7 @@ use Rattle.std.proofs.Common.{◌≡◌, ℕ, zero, suc, ◌+◌, ◌<◌, ◌�
 use Rattle.std.specs.Prelude.{slice_get}
 use Rattle.text_terms.specs.Faults.{HasNoFault, IsFirstFault}
 use Rattle.text_terms.specs.Lines.{LineText}
-use Rattle.text_terms.proofs.FaultLaws.{first_cause, first_place}
+use Rattle.text_terms.proofs.FaultLaws.{one_cause, first_place}
 use Rattle.cover_certificate.specs.declared.block.BlockCause.{BlockCause}
 use Rattle.cover_certificate.specs.declared.block.BlockCause.TheVariants.{Form}
 use Rattle.cover_certificate.specs.LineForms.{Wanted}
@@ -99,4 +99,4 @@ pub one_fault : (lines : List LineText) (passed p q : ℕ) (c d : BlockCause) �
     → (p ≡ q) × (c ≡ d)
 one_fault lines passed p q c d a b =
     let places : a.place ≡ b.place = first_place (fault_at lines) (length lines) a.place b.place c d a.first b.first in
-    (omega (arith, a.number_is, b.number_is, places), first_cause (fault_at lines) (length lines) a.place b.place c d a.first b.first)
+    (omega (arith, a.number_is, b.number_is, places), one_cause (fault_at lines) (length lines) a.place b.place c d a.first b.first)

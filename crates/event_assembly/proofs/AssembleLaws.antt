@@ -5,6 +5,7 @@ use Rattle.std.specs.Option.{option_map}
 use Rattle.edt_outside.specs.Shelves.{Files}
 use Rattle.edt_score.specs.Field.{FieldTimes}
 use Rattle.grid_header.specs.declared.header.Header.{Header}
+use Rattle.grid_header.specs.Reading.{header_of}
 use Rattle.node_boxes.specs.Grid.{node_count}
 use Rattle.control_reader.specs.ControlValues.{ControlValues}
 use Rattle.phase_reader.specs.declared.phases.Pick.{Pick}
@@ -18,7 +19,7 @@ use Rattle.event_assembly.specs.Answers.{IsTold}
 use Rattle.text_terms.specs.Faults.{first_cause}
 use Rattle.event_assembly.specs.Assembling.{keys_at, rows_of, assemble_fault, roots_for}
 use Rattle.event_assembly.specs.AssemblyValues.{event_value, event_of, events_of, values_by, unless_fault, assembly_of, assembly_value}
-use Rattle.event_assembly.specs.Headers.{header_of, header_fault, place_of_file, places_of}
+use Rattle.event_assembly.specs.Headers.{header_fault, place_of_file, places_of}
 use Rattle.event_assembly.specs.Names.{header_name}
 use Rattle.event_assembly.specs.Inside.Planning.{place_of_header, places_of_headers}
 use Rattle.event_assembly.specs.Inside.Reads.{IsRefusal, header_in}

@@ -9,21 +9,16 @@ use Rattle.edt_outside.specs.ReadFaults.{ReadsWhole}
 use Rattle.edt_outside.specs.HasFaults.{Tells}
 use Rattle.grid_header.specs.declared.header.Header.{Header}
 use Rattle.grid_header.specs.Causes.{cause_of}
-use Rattle.grid_header.specs.Reading.{IsReading}
+use Rattle.grid_header.specs.Reading.{IsReading, header_of}
 use Rattle.control_reader.specs.ControlValues.{ControlValues}
 use Rattle.station_table.specs.declared.keys.GridKey.{GridKey}
 use Rattle.phase_reader.specs.declared.phases.Pick.{Pick}
 use Rattle.station_table.specs.Keys.{wanted_keys}
 use Rattle.event_assembly.specs.Assembling.{lacks_a_wanted_header}
-use Rattle.event_assembly.specs.Headers.{header_of, fault_of_file, has_no_header, lacks_a_header}
+use Rattle.event_assembly.specs.Headers.{fault_of_file, has_no_header, lacks_a_header}
 use Rattle.event_assembly.specs.Names.{header_name}
 use Rattle.event_assembly.specs.Inside.Reads.{ReadsPresent, ReadsHeader, header_in}
 use Rattle.event_assembly.proofs.GridLaws.{none_passes}
-
--- a header that was read is the header of its bytes
-pub header_of-read : (bytes : List ℕ) (header : Header) → IsReading bytes header → header ≡ header_of bytes
-unfolding header_of
-header_of-read bytes header read = rw (read.fields.x, read.fields.y, read.fields.z, read.fields.ox, read.fields.oy, read.fields.oz, read.fields.dx, read.fields.dy, read.fields.dz, read.fields.sx, read.fields.sy, read.fields.sz) refl
 
 -- the answer for a file that was read whole
 pub present_read : (told : Option Files) (name text : List ℕ) (bytes : Vec ℕ) (header : Header) → text ≡ name
@@ -32,7 +27,7 @@ pub present_read : (told : Option Files) (name text : List ℕ) (bytes : Vec ℕ
 present_read None name text bytes header same whole read good = tt
 present_read (Some files) name text bytes header same (file, short) read good =
     let there : files name ≡ Some bytes.items = subst (λ (t : List ℕ). files t ≡ Some bytes.items) same file in
-    rw (there, le-ltb 65536 (length bytes.items) short, good) (refl, header_of-read bytes.items header read)
+    rw (there, le-ltb 65536 (length bytes.items) short, good) (refl, read.is)
 
 -- a header that is there and was read
 read_there : (name : List ℕ) (file : Option (List ℕ)) (header : Header) → is_some file ≡ true → IfSome file (λ bytes. ReadsPresent name bytes (Ok header))

@@ -8,12 +8,12 @@ use Rattle.std.proofs.lemmas.Option.{slice_get-map, same_Some}
 use Rattle.edt_outside.specs.Shelves.{Files}
 use Rattle.edt_score.specs.Field.{FieldTimes}
 use Rattle.grid_header.specs.declared.header.Header.{Header}
+use Rattle.grid_header.specs.Reading.{header_of}
 use Rattle.control_reader.specs.ControlValues.{ControlValues}
 use Rattle.station_table.specs.declared.keys.GridKey.{GridKey}
 use Rattle.event_assembly.specs.declared.faults.AssembleFault.{AssembleFault}
 use Rattle.event_assembly.specs.Inside.Reads.{IsRefusal}
 use Rattle.event_assembly.specs.Assembling.{keys_at, roots_for}
-use Rattle.event_assembly.specs.Headers.{header_of}
 use Rattle.event_assembly.specs.Names.{header_name, body_name}
 use Rattle.event_assembly.specs.Inside.Reads.{header_in, IsRowKey, ReadsRow, ReadsRows}
 use Rattle.event_assembly.specs.Rows.{body_search_times, times_for, fault_of_row_file, row_header, row_fault, row_times}

@@ -1,11 +1,9 @@
 -- The headers of the time grids, and where their sources are.
-use Rattle.std.specs.Prelude.{ℕ, Bool, nat_lt, if◌then◌else◌, List, length, map, Option, Some, None, is_none, unwrap_or, ℤ, pos, unsigned_abs}
+use Rattle.std.specs.Prelude.{ℕ, Bool, nat_lt, if◌then◌else◌, List, length, map, Option, Some, None, is_none}
 use Rattle.std.specs.List.{list_any}
 use Rattle.std.specs.Option.{option_map}
-use Rattle.fixed_decimal.specs.Value.{millionths_of, whole_of}
-use Rattle.grid_header.specs.declared.header.Header.{Header}
 use Rattle.grid_header.specs.Causes.{cause_of}
-use Rattle.grid_header.specs.Layout.{grid_words, source_words, word_at}
+use Rattle.grid_header.specs.Reading.{header_of}
 use Rattle.edt_outside.specs.Shelves.{Files}
 use Rattle.control_reader.specs.ControlValues.{ControlValues}
 use Rattle.station_table.specs.declared.keys.GridKey.{GridKey}
@@ -14,31 +12,6 @@ use Rattle.station_table.specs.declared.keys.Place.TheVariants.{Absent, At}
 use Rattle.event_assembly.specs.declared.faults.AssembleFault.{AssembleFault}
 use Rattle.event_assembly.specs.declared.faults.AssembleFault.TheVariants.{Header as faulty_header, HeaderLong}
 use Rattle.event_assembly.specs.Names.{header_name}
-
--- the decimal of a word in millionths, 0 where it has none
-abbrev pub length_in : List ℕ → ℤ
-length_in word = unwrap_or (millionths_of word) (pos 0)
-
--- the whole number of a word, 0 where it has none
-abbrev pub count_in : List ℕ → ℕ
-count_in word = unsigned_abs (unwrap_or (whole_of word) (pos 0))
-
--- what a header says
-unfoldable pub header_of : List ℕ → Header
-header_of bytes = record {
-  x = count_in (word_at 0 (grid_words bytes));
-  y = count_in (word_at 1 (grid_words bytes));
-  z = count_in (word_at 2 (grid_words bytes));
-  ox = length_in (word_at 3 (grid_words bytes));
-  oy = length_in (word_at 4 (grid_words bytes));
-  oz = length_in (word_at 5 (grid_words bytes));
-  dx = length_in (word_at 6 (grid_words bytes));
-  dy = length_in (word_at 7 (grid_words bytes));
-  dz = length_in (word_at 8 (grid_words bytes));
-  sx = length_in (word_at 1 (source_words bytes));
-  sy = length_in (word_at 2 (source_words bytes));
-  sz = length_in (word_at 3 (source_words bytes));
-}
 
 -- the place of the source of a header; there is none where there is no header
 abbrev pub place_of_file : Option (List ℕ) → Place

@@ -3,6 +3,7 @@ use Rattle.std.specs.Prelude.{ℕ, ◌+◌, ◌*◌, ◌/◌, ◌==◌, Bool, �
 use Rattle.std.specs.List.{list_any, position, range_with_len}
 use Rattle.std.specs.Option.{option_map, option_or}
 use Rattle.grid_header.specs.declared.header.Header.{Header}
+use Rattle.grid_header.specs.Reading.{header_of}
 use Rattle.node_boxes.specs.Grid.{node_count}
 use Rattle.edt_outside.specs.Shelves.{Files}
 use Rattle.control_reader.specs.ControlValues.{ControlValues}
@@ -20,7 +21,6 @@ use Rattle.time_grid.specs.Numbers.{body_times, is_over}
 use Rattle.event_assembly.specs.declared.faults.AssembleFault.{AssembleFault}
 use Rattle.event_assembly.specs.declared.faults.AssembleFault.TheVariants.{Absent, Body, Align, Cells}
 use Rattle.event_assembly.specs.Cases.{is_ready}
-use Rattle.event_assembly.specs.Headers.{header_of}
 use Rattle.event_assembly.specs.Names.{header_name, body_name}
 
 -- an event is ready, and one of its used picks has the key of this number

@@ -1,5 +1,6 @@
 -- Whether lines are those of a header, by their number.
 use Rattle.std.proofs.Common.{◌≡◌, ℕ, ◌<◌, ◌≤◌, true, false, List, [], ◌∷◌, length, Option, Some, None, IfNone, ◌⊎◌, inl, inr, ◌∙◌, ap, arith}
+use Rattle.std.specs.Prelude.{nat_le}
 use Rattle.std.proofs.lemmas.Grind.{common_steps}
 use Rattle.text_terms.specs.Lines.{LineText, lines_of}
 use Rattle.text_terms.specs.Words.{words_of}
@@ -52,7 +53,7 @@ shape-long bytes first second more e long = elim long [
 
 -- nor do too few words in one of them
 pub shape-few : (bytes : List ℕ) (first second : LineText) (more : List LineText) → lines_of bytes ≡ first ∷ second ∷ more
-    → (length (words_of first.bytes) < 10) ⊎ (length (words_of second.bytes) < 4) → has_shape bytes ≡ false
+    → (nat_le 10 (length (words_of first.bytes)) ≡ false) ⊎ (nat_le 4 (length (words_of second.bytes)) ≡ false) → has_shape bytes ≡ false
 shape-few bytes first second more e few = elim few [
   | inl less ↦ shape-two_lines bytes first second more e ∙ grind (arith, common_steps)
   | inr less ↦ shape-two_lines bytes first second more e ∙ grind (arith, common_steps)
@@ -60,6 +61,6 @@ shape-few bytes first second more e few = elim few [
 
 -- short lines with enough words have the shape
 pub shape-whole : (bytes : List ℕ) (first second : LineText) (more : List LineText) → lines_of bytes ≡ first ∷ second ∷ more
-    → length first.bytes ≤ 4096 → length second.bytes ≤ 4096 → 10 ≤ length (words_of first.bytes) → 4 ≤ length (words_of second.bytes)
-    → has_shape bytes ≡ true
+    → length first.bytes ≤ 4096 → length second.bytes ≤ 4096 → nat_le 10 (length (words_of first.bytes)) ≡ true
+    → nat_le 4 (length (words_of second.bytes)) ≡ true → has_shape bytes ≡ true
 shape-whole bytes first second more e one two ten four = shape-two_lines bytes first second more e ∙ grind (arith, common_steps)

@@ -2,7 +2,7 @@
 use Rattle.std.specs.Prelude.{ℕ, ◌+◌, Bool, ◌&&◌, nat_le, List, [], ◌∷◌, map, length, get_or, codes}
 use Rattle.std.specs.Str.{bytes_eq}
 use Rattle.text_terms.specs.Lines.{LineText, lines_of}
-use Rattle.text_terms.specs.Words.{words_of}
+use Rattle.text_terms.specs.Words.{words_of, word_at}
 
 -- the bytes of a line, counted from 0, or none where there is no such line
 abbrev pub line_at : ℕ → List LineText → List ℕ
@@ -29,18 +29,14 @@ are_header_lines lines =
 unfoldable pub has_shape : List ℕ → Bool
 has_shape bytes = are_header_lines (lines_of bytes)
 
--- a word of a line, counted from 0, or no bytes where there is no such word
-abbrev pub word_at : ℕ → List (List ℕ) → List ℕ
-word_at k words = get_or words k []
-
 -- three words of a line, from one on
 abbrev pub three_from : ℕ → List (List ℕ) → List (List ℕ)
 three_from k words = word_at k words ∷ word_at (k + 1) words ∷ word_at (k + 2) words ∷ []
 
 -- the grid is of times
-abbrev pub is_of_times : List ℕ → Bool
-is_of_times bytes = bytes_eq (word_at 9 (grid_words bytes)) (codes "TIME")
+abbrev pub is_of_times : List (List ℕ) → Bool
+is_of_times grid = bytes_eq (word_at 9 grid) (codes "TIME")
 
 -- the body holds whole microseconds
-abbrev pub is_of_microseconds : List ℕ → Bool
-is_of_microseconds bytes = bytes_eq (word_at 10 (grid_words bytes)) (codes "USEC32")
+abbrev pub is_of_microseconds : List (List ℕ) → Bool
+is_of_microseconds grid = bytes_eq (word_at 10 grid) (codes "USEC32")

@@ -2,31 +2,31 @@
 use Rattle.std.specs.Prelude.{ℕ, ◌*◌, ◌^◌, Bool, false, ◌&&◌, nat_le, List, map, get_or, Option, Some, None, is_some, ℤ, pos, int_le, unsigned_abs}
 use Rattle.std.specs.List.{list_all}
 use Rattle.fixed_decimal.specs.Value.{millionths_of, whole_of}
-use Rattle.grid_header.specs.Layout.{grid_words, source_words, three_from}
+use Rattle.grid_header.specs.Layout.{three_from}
 
 -- the readings of xNum, yNum and zNum
-abbrev pub counts_of : List ℕ → List (Option ℤ)
-counts_of bytes = map whole_of (three_from 0 (grid_words bytes))
+abbrev pub counts_of : List (List ℕ) → List (Option ℤ)
+counts_of grid = map whole_of (three_from 0 grid)
 
 -- the readings of xOrig, yOrig and zOrig in millimetres: a millionth of a kilometre is a millimetre
-abbrev pub origin_of : List ℕ → List (Option ℤ)
-origin_of bytes = map millionths_of (three_from 3 (grid_words bytes))
+abbrev pub origin_of : List (List ℕ) → List (Option ℤ)
+origin_of grid = map millionths_of (three_from 3 grid)
 
 -- the readings of dx, dy and dz in millimetres
-abbrev pub spacing_of : List ℕ → List (Option ℤ)
-spacing_of bytes = map millionths_of (three_from 6 (grid_words bytes))
+abbrev pub spacing_of : List (List ℕ) → List (Option ℤ)
+spacing_of grid = map millionths_of (three_from 6 grid)
 
 -- the readings of xSrce, ySrce and zSrce in millimetres
-abbrev pub source_of : List ℕ → List (Option ℤ)
-source_of bytes = map millionths_of (three_from 1 (source_words bytes))
+abbrev pub source_of : List (List ℕ) → List (Option ℤ)
+source_of source = map millionths_of (three_from 1 source)
 
--- each number word has a reading
-abbrev pub has_numbers : List ℕ → Bool
-has_numbers bytes =
-    list_all is_some (counts_of bytes)
-    && list_all is_some (origin_of bytes)
-    && list_all is_some (spacing_of bytes)
-    && list_all is_some (source_of bytes)
+-- each number word of the two lines has a reading
+abbrev pub has_numbers : List (List ℕ) → List (List ℕ) → Bool
+has_numbers grid source =
+    list_all is_some (counts_of grid)
+    && list_all is_some (origin_of grid)
+    && list_all is_some (spacing_of grid)
+    && list_all is_some (source_of source)
 
 -- a number from one limit to another
 abbrev pub is_within : ℤ → ℤ → Option ℤ → Bool
@@ -61,9 +61,9 @@ abbrev pub are_counts : List (Option ℤ) → Bool
 are_counts counts = list_all is_count counts && nat_le (nodes_of counts) 16000000
 
 -- each number is within its limits
-abbrev pub is_within_limits : List ℕ → Bool
-is_within_limits bytes =
-    are_counts (counts_of bytes)
-    && list_all is_coordinate (origin_of bytes)
-    && list_all is_spacing (spacing_of bytes)
-    && list_all is_coordinate (source_of bytes)
+abbrev pub is_within_limits : List (List ℕ) → List (List ℕ) → Bool
+is_within_limits grid source =
+    are_counts (counts_of grid)
+    && list_all is_coordinate (origin_of grid)
+    && list_all is_spacing (spacing_of grid)
+    && list_all is_coordinate (source_of source)

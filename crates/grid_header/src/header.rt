@@ -1,7 +1,7 @@
 //! A header and its reading.
 ghost use Rattle.std.specs.Prelude.{◌≡◌, ◌≤◌, Some, None, length, IfOk, IfErr};
 ghost use Rattle.grid_header.specs.Causes.{cause_of};
-ghost use Rattle.grid_header.specs.Reading.{AreFields, IsReading, IsValidHeader};
+ghost use Rattle.grid_header.specs.Reading.{header_of, IsReading, IsValidHeader};
 
 use crate::numbers::Numbers;
 use crate::words::header_words;
@@ -68,15 +68,15 @@ pub fn read_header(bytes: &[u8]) -> Result<Header, HeaderError>
 fn read_fields(bytes: &[u8]) -> Result<Header, HeaderError>
     requires { length bytes.now ≤ 65536 }
     ensures good { IfOk result (λ _. cause_of bytes.now ≡ None) }
-    ensures fields { IfOk result (AreFields bytes.now) }
+    ensures fields { IfOk result (λ header. header ≡ header_of bytes.now) }
     ensures limits { IfOk result IsValidHeader }
     ensures fault { IfErr result (λ cause. cause_of bytes.now ≡ Some cause) }
 {
     let words = header_words(bytes).ok_or(HeaderError::Shape)?;
-    if words.kind != b"TIME".as_slice() {
+    if words.grid.at(9) != b"TIME".as_slice() {
         return Err(HeaderError::Kind);
     }
-    if words.body != b"USEC32".as_slice() {
+    if words.grid.at(10) != b"USEC32".as_slice() {
         return Err(HeaderError::FloatBody);
     }
     let numbers = Numbers::read(&words).ok_or(HeaderError::Number)?;

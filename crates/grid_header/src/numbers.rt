@@ -1,14 +1,16 @@
 //! The numbers of a header, and their limits.
-ghost use Rattle.std.specs.Prelude.{◌≡◌, ◌*◌, ◌≤◌, nat_le, true, false, Some, None, IfNone, IfSome, map, is_some, unsigned_abs, if◌then◌else◌};
+ghost use Rattle.std.specs.Prelude.{◌≡◌, ◌+◌, ◌*◌, ◌≤◌, nat_le, true, false, Some, None, IfNone, IfSome, map, is_some, unsigned_abs};
 ghost use Rattle.std.specs.List.{list_all};
 ghost use Rattle.fixed_decimal.specs.Value.{millionths_of, whole_of};
-ghost use Rattle.grid_header.specs.Numbers.{is_count, are_counts, is_spacing, is_coordinate};
-ghost use Rattle.grid_header.specs.Inside.Parts.{three_words};
-ghost use Rattle.grid_header.specs.Inside.Fields.{three_numbers, AreNumbersOf, has_all_numbers, are_all_within, IsHeaderOf};
+ghost use Rattle.edt_text.specs.PlacedWords.{placed_words};
+ghost use Rattle.grid_header.specs.Layout.{three_from};
+ghost use Rattle.grid_header.specs.Numbers.{has_numbers, is_count, are_counts, is_spacing, is_coordinate};
+ghost use Rattle.grid_header.specs.Inside.Fields.{three_numbers, AreNumbersOf, are_all_within, header_with};
 ghost use Rattle.grid_header.specs.Reading.{IsValidHeader};
 
 use crate::header::Header;
-use crate::words::{Axes, HeaderWords};
+use crate::words::HeaderWords;
+use edt_text::PlacedWords;
 use fixed_decimal::{read_millionths, read_whole};
 
 const MOST_ON_AXIS: i64 = 4096;
@@ -39,14 +41,14 @@ pub(crate) struct Numbers {
 impl Numbers {
     /// The numbers of the words, or `None` where one has no reading.
     pub fn read(words: &HeaderWords) -> Option<Numbers>
-        ensures none { IfNone result (has_all_numbers words.now ≡ false) }
-        ensures some { IfSome result (AreNumbersOf words.now) }
+        ensures none { IfNone result (has_numbers (placed_words words.now.grid) (placed_words words.now.source) ≡ false) }
+        ensures some { IfSome result (AreNumbersOf (placed_words words.now.grid) (placed_words words.now.source)) }
     {
         Some(Numbers {
-            counts: wholes(&words.counts)?,
-            origin: lengths(&words.origin)?,
-            spacing: lengths(&words.spacing)?,
-            source: lengths(&words.source)?,
+            counts: wholes(&words.grid, 0)?,
+            origin: lengths(&words.grid, 3)?,
+            spacing: lengths(&words.grid, 6)?,
+            source: lengths(&words.source, 1)?,
         })
     }
 
@@ -54,7 +56,7 @@ impl Numbers {
     pub fn header(&self) -> Option<Header>
         ensures none { IfNone result (are_all_within self.now ≡ false) }
         ensures within { IfSome result (λ _. are_all_within self.now ≡ true) }
-        ensures some { IfSome result (λ header. IsHeaderOf self.now header × IsValidHeader header) }
+        ensures some { IfSome result (λ header. (header ≡ header_with self.now) × IsValidHeader header) }
     {
         if !are_counts(&self.counts) || !are_coordinates(&self.origin) {
             return None;
@@ -79,25 +81,29 @@ impl Numbers {
     }
 }
 
-fn wholes(words: &Axes) -> Option<Triple>
-    ensures none { IfNone result (list_all is_some (map whole_of (three_words words.now)) ≡ false) }
-    ensures some { IfSome result (λ n. map whole_of (three_words words.now) ≡ three_numbers n) }
+// The three whole numbers from a place on, or `None` where one has no reading.
+fn wholes(words: &PlacedWords, from: usize) -> Option<Triple>
+    requires { from ≤ 12 }
+    ensures none { IfNone result (list_all is_some (map whole_of (three_from from (placed_words words.now))) ≡ false) }
+    ensures some { IfSome result (λ n. map whole_of (three_from from (placed_words words.now)) ≡ three_numbers n) }
 {
     Some(Triple {
-        x: read_whole(words.x).ok()?,
-        y: read_whole(words.y).ok()?,
-        z: read_whole(words.z).ok()?,
+        x: read_whole(words.at(from)).ok()?,
+        y: read_whole(words.at(from + 1)).ok()?,
+        z: read_whole(words.at(from + 2)).ok()?,
     })
 }
 
-fn lengths(words: &Axes) -> Option<Triple>
-    ensures none { IfNone result (list_all is_some (map millionths_of (three_words words.now)) ≡ false) }
-    ensures some { IfSome result (λ n. map millionths_of (three_words words.now) ≡ three_numbers n) }
+// The three lengths from a place on, or `None` where one has no reading.
+fn lengths(words: &PlacedWords, from: usize) -> Option<Triple>
+    requires { from ≤ 12 }
+    ensures none { IfNone result (list_all is_some (map millionths_of (three_from from (placed_words words.now))) ≡ false) }
+    ensures some { IfSome result (λ n. map millionths_of (three_from from (placed_words words.now)) ≡ three_numbers n) }
 {
     Some(Triple {
-        x: read_millionths(words.x).ok()?,
-        y: read_millionths(words.y).ok()?,
-        z: read_millionths(words.z).ok()?,
+        x: read_millionths(words.at(from)).ok()?,
+        y: read_millionths(words.at(from + 1)).ok()?,
+        z: read_millionths(words.at(from + 2)).ok()?,
     })
 }
 

@@ -1,8 +1,7 @@
 -- One element of a list, cut off in front of the rest, and numbered lists.
-use Rattle.std.proofs.Common.{◌≡◌, ℕ, zero, suc, ◌+◌, ◌<◌, ◌≤◌, List, [], ◌∷◌, ◌++◌, length, take, drop, Option, Some, None, Result, Ok, Err, refl, ◌∙◌, ap, arith, length-drop, sym, Bor}
-use Rattle.std.specs.Prelude.{IfNone, IfSome, OnOk, option_copied}
+use Rattle.std.proofs.Common.{◌≡◌, ℕ, zero, suc, ◌+◌, ◌<◌, ◌≤◌, List, [], ◌∷◌, ◌++◌, length, take, drop, Some, Result, Ok, Err, refl, ap, arith, length-drop}
+use Rattle.std.specs.Prelude.{OnOk}
 use Rattle.std.specs.List.{slice_get, enumerate_from}
-use Rattle.std.proofs.lemmas.Option.{slice_get_past}
 
 -- the element at a place, and what stands behind it
 pub record IsHere {A : Type 0} (k : ℕ) (xs : List A) (x : A) (rest : List A) : Type 0 where

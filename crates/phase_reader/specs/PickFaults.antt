@@ -20,15 +20,22 @@ abbrev pub is_weight : Option (List ℕ) → Bool
 is_weight None = true
 is_weight (Some word) = is_some (millionths_of word)
 
--- the first fault of the words that are read, from left to right: station, phase, date, clock, seconds, error type, error, weight
+-- the first fault of the date, the clock and the seconds
+unfoldable pub time_fault : List (List ℕ) → Option PhaseCause
+time_fault words =
+    first_cause (
+    unless (is_some (date_of (word_at 6 words))) Date
+    ∷ unless (is_some (clock_of (word_at 7 words))) Time
+    ∷ seconds_fault (millionths_of (word_at 8 words))
+    ∷ [])
+
+-- the first fault of the words that are read, from left to right: station, phase, time, error type, error and weight
 unfoldable pub words_fault : List (List ℕ) → Option PhaseCause
 words_fault words =
     first_cause (
     unless (is_name 64 (word_at 0 words)) Name
     ∷ unless (is_name 64 (word_at 4 words)) Name
-    ∷ unless (is_some (date_of (word_at 6 words))) Date
-    ∷ unless (is_some (clock_of (word_at 7 words))) Time
-    ∷ seconds_fault (millionths_of (word_at 8 words))
+    ∷ time_fault words
     ∷ unless (bytes_eq (word_at 9 words) (codes "GAU")) ErrorType
     ∷ unless (is_some (millionths_of (word_at 10 words))) Number
     ∷ unless (is_weight (slice_get words 14)) Number

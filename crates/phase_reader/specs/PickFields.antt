@@ -60,9 +60,18 @@ day_number n = days_from_civil (pos (year_of n)) (month_of n) (day_of n)
 abbrev pub clock_microseconds : ℕ → ℕ
 clock_microseconds n = n / 100 * 3600000000 + n % 100 * 60000000
 
--- the time of a date, an hour and a minute, and seconds, in microseconds from the start of 1 January 1970
-unfoldable pub time_of : ℕ → ℕ → ℤ → ℤ
-time_of date clock seconds = (day_number date *ℤ pos 86400000000) +ℤ pos (clock_microseconds clock) +ℤ seconds
+-- year, month and day of a line's words
+unfoldable pub civil_of : List (List ℕ) → ℤ × ℤ × ℤ
+civil_of words =
+    let date : ℕ = unwrap_or (date_of (word_at 6 words)) 0 in
+    (pos (year_of date), pos (month_of date), pos (day_of date))
+
+-- the time that a line's words write, in microseconds from the start of 1 January 1970
+unfoldable pub time_of : List (List ℕ) → ℤ
+time_of words =
+    (day_number (unwrap_or (date_of (word_at 6 words)) 0) *ℤ pos 86400000000)
+    +ℤ pos (clock_microseconds (unwrap_or (clock_of (word_at 7 words)) 0))
+    +ℤ unwrap_or (millionths_of (word_at 8 words)) (pos 0)
 
 -- the weight in thousandths, cut downwards, or 1000 where no word is given
 unfoldable pub weight_of : Option (List ℕ) → ℤ
@@ -72,14 +81,12 @@ weight_of (Some word) = int_div_euclid (unwrap_or (millionths_of word) (pos 0)) 
 -- the pick that words of a line of this number mean
 unfoldable pub pick_of_words : ℕ → List (List ℕ) → Pick
 pick_of_words number words =
-    let date : ℕ = unwrap_or (date_of (word_at 6 words)) 0 in
-    let clock : ℕ = unwrap_or (clock_of (word_at 7 words)) 0 in
     record {
       line = number;
       station = word_at 0 words;
       phase = word_at 4 words;
-      day = (pos (year_of date), pos (month_of date), pos (day_of date));
-      time = time_of date clock (unwrap_or (millionths_of (word_at 8 words)) (pos 0));
+      day = civil_of words;
+      time = time_of words;
       error = unwrap_or (millionths_of (word_at 10 words)) (pos 0);
       weight = weight_of (slice_get words 14);
     }

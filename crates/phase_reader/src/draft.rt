@@ -1,5 +1,5 @@
 //! A phase file that is read line by line.
-ghost use Rattle.std.specs.Prelude.{◌≡◌, ◌≢◌, ◌+◌, ◌<◌, ◌≤◌, [], ◌∷◌, ◌++◌, List, IsTrue, OnOk, OnErr, IfOk, IfErr, All, length, vec_len, false, codes, ℕ};
+ghost use Rattle.std.specs.Prelude.{◌≡◌, ◌≢◌, ◌+◌, ◌<◌, ◌≤◌, [], ◌∷◌, ◌++◌, List, IsTrue, OnOk, IfOk, IfErr, All, length, vec_len, false, codes};
 ghost use Rattle.std.specs.Str.{bytes_eq};
 ghost use Rattle.text_terms.specs.Lines.{NumberedLine};
 ghost use Rattle.text_terms.specs.Names as names;
@@ -15,7 +15,7 @@ ghost use Rattle.phase_reader.specs.Inside.DraftLimits.{IsDraft};
 use crate::fault::PhaseCause;
 use crate::kind::{LineKind, kind_of};
 use crate::phases::{Event, Phases, Pick};
-use crate::values::{read_clock, read_date, read_decimal, read_seconds, read_weight, time_at};
+use crate::values::{read_decimal, read_time, read_weight};
 use edt_text::{Name, PlacedWords, Words, is_name};
 use std::alloc::Global;
 use std::mem;
@@ -161,13 +161,7 @@ fn read_pick(alloc: Global, line: u32, words: &PlacedWords) -> Result<Pick, Phas
 {
     let station = read_name(alloc, words.at(0))?;
     let phase = read_name(alloc, words.at(4))?;
-    let Some(day) = read_date(words.at(6)) else {
-        return Err(PhaseCause::Date);
-    };
-    let Some(clock) = read_clock(words.at(7)) else {
-        return Err(PhaseCause::Time);
-    };
-    let seconds = read_seconds(words.at(8))?;
+    let moment = read_time(words)?;
     if !is_gau(words.at(9)) {
         return Err(PhaseCause::ErrorType);
     }
@@ -177,8 +171,8 @@ fn read_pick(alloc: Global, line: u32, words: &PlacedWords) -> Result<Pick, Phas
         line,
         station,
         phase,
-        day: day.date,
-        time: time_at(day.number, clock, seconds),
+        day: moment.day,
+        time: moment.time,
         error,
         weight,
     })

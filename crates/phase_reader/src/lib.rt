@@ -9,6 +9,7 @@
 mod draft;
 mod fault;
 mod kind;
+mod laws;
 mod phases;
 mod reading;
 #[cfg(test)]
@@ -16,5 +17,6 @@ mod tests;
 mod values;
 
 pub use fault::{PhaseCause, PhaseFault};
+pub use laws::reading_excludes_fault;
 pub use phases::{Event, Phases, Pick};
-pub use reading::{read_phases, reading_excludes_fault};
+pub use reading::read_phases;

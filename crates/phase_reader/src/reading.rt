@@ -1,5 +1,5 @@
 //! The reading of a phase file.
-ghost use Rattle.std.specs.Prelude.{◌≡◌, ◌≢◌, ◌≤◌, ℕ, List, length, vec_len, All, IfOk, IfErr};
+ghost use Rattle.std.specs.Prelude.{◌≢◌, ◌≤◌, length, vec_len, All, IfOk, IfErr};
 ghost use Rattle.phase_reader.specs.declared.fault.PhaseFault.{PhaseFault};
 ghost use Rattle.phase_reader.specs.declared.phases.Phases.{Phases};
 ghost use Rattle.phase_reader.specs.Limits.{IsEvent};
@@ -44,8 +44,3 @@ pub fn read_phases(alloc: Global, bytes: &[u8]) -> Result<Phases, PhaseFault>
         }),
     }
 }
-
-/// No phase file has both a reading and a fault.
-pub fn reading_excludes_fault()
-    ensures { (bytes : List ℕ) (phases : Phases) (fault : PhaseFault) → IsReading bytes phases → IsPhaseFault bytes fault → ⊥ }
-{}

@@ -1,10 +1,10 @@
 //! What the words of a pick mean.
-ghost use Rattle.std.specs.Prelude.{◌≡◌, ◌+◌, ◌*◌, ◌<◌, ◌≤◌, ◌^◌, ◌+ℤ◌, ◌*ℤ◌, ◌&&◌, nat_le, if◌then◌else◌, pos, unsigned_abs, length, is_some, IsTrue, IfOk, IfErr, IfSome, IfNone, OnErr, slice_get, false};
+ghost use Rattle.std.specs.Prelude.{◌≡◌, ◌+◌, ◌*◌, ◌<◌, ◌≤◌, ◌^◌, ◌+ℤ◌, ◌*ℤ◌, ◌&&◌, nat_le, if◌then◌else◌, pos, unsigned_abs, is_some, IsTrue, IfOk, IfErr, IfSome, OnOk, OnErr, slice_get, false};
 ghost use Rattle.std.specs.Option.{option_map};
 ghost use Rattle.fixed_decimal.specs.Value.{millionths_of};
 ghost use Rattle.edt_text.specs.PlacedWords.{placed_words};
-ghost use Rattle.phase_reader.specs.PickFields.{digits_of, date_of, clock_of, clock_microseconds, is_date, is_clock, is_seconds, weight_of};
-ghost use Rattle.phase_reader.specs.PickFaults.{seconds_fault, is_weight};
+ghost use Rattle.phase_reader.specs.PickFields.{digits_of, date_of, clock_of, civil_of, time_of, clock_microseconds, is_date, is_clock, is_seconds, weight_of};
+ghost use Rattle.phase_reader.specs.PickFaults.{seconds_fault, time_fault, is_weight};
 ghost use Rattle.phase_reader.specs.Inside.PickDays.{civil_day, IsPickDay};
 
 use crate::fault::PhaseCause;
@@ -12,17 +12,47 @@ use edt_text::{PlacedWords, digits_within};
 use fixed_decimal::read_millionths;
 use jiff::civil::Date;
 
-/// A day of the calendar.
+/// The date and the time of a pick.
 #[derive(Clone, Copy)]
-pub(crate) struct CivilDay {
+pub(crate) struct PickTime {
     /// Year, month and day of the month.
-    pub(crate) date: (i64, i64, i64),
-    /// The days since 1970-01-01.
-    pub(crate) number: i64,
+    pub(crate) day: (i64, i64, i64),
+    /// The microseconds from the start of 1970-01-01.
+    pub(crate) time: i64,
 }
 
-/// The day that a word yyyymmdd names, if it is one of the Gregorian calendar in the years 1000 to 9998.
-pub(crate) fn read_date(word: &[u8]) -> Option<CivilDay>
+// A day of the calendar.
+#[derive(Clone, Copy)]
+struct CivilDay {
+    // Year, month and day of the month.
+    date: (i64, i64, i64),
+    // The days since 1970-01-01.
+    number: i64,
+}
+
+/// What the date, the clock and the seconds of a line's words mean, or the first fault in them.
+pub(crate) fn read_time(words: &PlacedWords) -> Result<PickTime, PhaseCause>
+    ensures day { IfOk result (λ at. at.day ≡ civil_of (placed_words words.now)) }
+    ensures time { IfOk result (λ at. at.time ≡ time_of (placed_words words.now)) }
+    ensures bound { IfOk result (λ at. unsigned_abs at.time ≤ 3 * 10 ^ 17) }
+    ensures good { OnOk result (time_fault (placed_words words.now) ≡ None) }
+    ensures fault { IfErr result (λ cause. time_fault (placed_words words.now) ≡ Some cause) }
+{
+    let Some(day) = read_date(words.at(6)) else {
+        return Err(PhaseCause::Date);
+    };
+    let Some(clock) = read_clock(words.at(7)) else {
+        return Err(PhaseCause::Time);
+    };
+    let seconds = read_seconds(words.at(8))?;
+    Ok(PickTime {
+        day: day.date,
+        time: time_at(day.number, clock, seconds),
+    })
+}
+
+// The day that a word yyyymmdd names, if it is one of the Gregorian calendar in the years 1000 to 9998.
+fn read_date(word: &[u8]) -> Option<CivilDay>
     ensures day { result ≡ option_map civil_day (date_of word.now) }
     ensures bound { IfSome result (λ day. IsPickDay day.number) }
 {
@@ -56,8 +86,8 @@ fn is_year_in_range(year: u32) -> bool
     year >= 1000 && year <= 9998
 }
 
-/// The microseconds of the day at which the minute of a word hhmm begins, if it is one from 0000 to 2359.
-pub(crate) fn read_clock(word: &[u8]) -> Option<u64>
+// The microseconds of the day at which the minute of a word hhmm begins, if it is one from 0000 to 2359.
+fn read_clock(word: &[u8]) -> Option<u64>
     ensures value { result ≡ option_map clock_microseconds (clock_of word.now) }
     ensures bound { IfSome result (λ clock. clock < 86400000000) }
 {
@@ -83,8 +113,8 @@ fn is_minute(number: u32) -> bool
     number / 100 <= 23 && number % 100 <= 59
 }
 
-/// The time of a day, the microseconds up to its minute and the seconds, in microseconds from the start of 1970-01-01.
-pub(crate) fn time_at(day: i64, clock: u64, seconds: i64) -> i64
+// The time of a day, the microseconds up to its minute and the seconds, in microseconds from the start of 1970-01-01.
+fn time_at(day: i64, clock: u64, seconds: i64) -> i64
     requires day { IsPickDay day }
     requires clock { clock < 86400000000 }
     requires seconds { IsTrue (is_seconds seconds) }
@@ -94,8 +124,8 @@ pub(crate) fn time_at(day: i64, clock: u64, seconds: i64) -> i64
     day * 86_400_000_000 + clock as i64 + seconds
 }
 
-/// Seconds in microseconds: a decimal, or else `Number`, from 0 to below 1000, or else `Time`.
-pub(crate) fn read_seconds(word: &[u8]) -> Result<i64, PhaseCause>
+// Seconds in microseconds: a decimal, or else `Number`, from 0 to below 1000, or else `Time`.
+fn read_seconds(word: &[u8]) -> Result<i64, PhaseCause>
     ensures value { IfOk result (λ seconds. millionths_of word.now ≡ Some seconds) }
     ensures good { IfOk result (λ seconds. IsTrue (is_seconds seconds)) }
     ensures fault { IfErr result (λ cause. seconds_fault (millionths_of word.now) ≡ Some cause) }

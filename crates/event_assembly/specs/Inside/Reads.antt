@@ -5,7 +5,7 @@ use Rattle.std.specs.Option.{option_map}
 use Rattle.edt_outside.specs.Shelves.{Files}
 use Rattle.edt_score.specs.Field.{FieldTimes}
 use Rattle.grid_header.specs.declared.header.Header.{Header}
-use Rattle.grid_header.specs.Reading.{IsValidHeader}
+use Rattle.grid_header.specs.Reading.{IsValidHeader, header_of}
 use Rattle.control_reader.specs.ControlValues.{ControlValues}
 use Rattle.station_table.specs.declared.keys.GridKey.{GridKey}
 use Rattle.time_grid.specs.declared.faults.GridFault.TheVariants.{Short as body_short, Long as body_long, TimeLimit as body_limit}
@@ -17,7 +17,7 @@ use Rattle.event_assembly.specs.declared.faults.AssembleFault.TheVariants.{Absen
 use Rattle.event_assembly.specs.Answers.{IfToldFault}
 use Rattle.text_terms.specs.Faults.{first_cause}
 use Rattle.event_assembly.specs.Assembling.{roots_for}
-use Rattle.event_assembly.specs.Headers.{header_of, header_fault, fault_of_file}
+use Rattle.event_assembly.specs.Headers.{header_fault, fault_of_file}
 use Rattle.event_assembly.specs.Names.{header_name, body_name}
 use Rattle.event_assembly.specs.Rows.{body_search_times, times_for, fault_of_row_file, row_fault, row_times}
 

@@ -17,27 +17,25 @@ returns-then-first-gt-MOST_BYTES-clause-none c =
     let two = two_given _ _ _ _ _ _ c.new-lines.ensures.lines c.in_ok-first.ensures.line c.in_ok-second.ensures.line in
     shape-long _ _ _ _ two c.then-first-gt-MOST_BYTES.either
 
-pub returns-in_err-grid-clause-none : goal.returns-in_err-grid-clause-none
-returns-in_err-grid-clause-none c =
+pub returns-then-not-has-clause-none : goal.returns-then-not-has-clause-none
+returns-then-not-has-clause-none c =
     let two = two_given _ _ _ _ _ _ c.new-lines.ensures.lines c.in_ok-first.ensures.line c.in_ok-second.ensures.line in
-    if_none _ (shape-few _ _ _ _ two (inl c.in_err-grid.ensures.none))
+    shape-few _ _ _ _ two (inl (rw (c.new-grid.ensures ∙ c.new.ensures) at (sym c.has.ensures ∙ c.if-not-has.true)))
 
-pub returns-in_err-source-clause-none : goal.returns-in_err-source-clause-none
-returns-in_err-source-clause-none c =
+pub returns-then-not-has-2-clause-none : goal.returns-then-not-has-2-clause-none
+returns-then-not-has-2-clause-none c =
     let two = two_given _ _ _ _ _ _ c.new-lines.ensures.lines c.in_ok-first.ensures.line c.in_ok-second.ensures.line in
-    if_none _ (shape-few _ _ _ _ two (inr c.in_err-source.ensures.none))
+    shape-few _ _ _ _ two (inr (rw (c.new-source.ensures ∙ c.new-2.ensures) at (sym c.has-2.ensures ∙ c.if-not-has-2.true)))
 
 pub returns-clause-some : goal.returns-clause-some
 returns-clause-some c =
     let two = two_given _ _ _ _ _ _ c.new-lines.ensures.lines c.in_ok-first.ensures.line c.in_ok-second.ensures.line in
-    let grid = c.in_ok-grid.ensures.some in
-    let one = grid_words-first c.args.bytes.now (line_text c.in_ok-first.field-0) (line_text c.in_ok-second.field-0 ∷ lines_left c.next-2.new.self) two in
+    let grid = c.new-grid.ensures ∙ c.new.ensures in
+    let source = c.new-source.ensures ∙ c.new-2.ensures in
     record {
-      shape = shape-whole _ _ _ _ two c.if-first-gt-MOST_BYTES.false c.if-second-gt-MOST_BYTES.false grid.enough c.in_ok-source.ensures.many;
-      counts = rw one grid.counts;
-      origin = rw one grid.origin;
-      spacing = rw one grid.spacing;
-      kind = rw one grid.kind;
-      body = rw one grid.body;
-      source = rw (source_words-second c.args.bytes.now (line_text c.in_ok-first.field-0) (line_text c.in_ok-second.field-0) (lines_left c.next-2.new.self) two) c.in_ok-source.ensures.some;
+      shape =
+          shape-whole _ _ _ _ two c.if-first-gt-MOST_BYTES.false c.if-second-gt-MOST_BYTES.false
+          (rw grid at (sym c.has.ensures ∙ c.if-not-has.false)) (rw source at (sym c.has-2.ensures ∙ c.if-not-has-2.false));
+      grid = grid ∙ sym (grid_words-first c.args.bytes.now (line_text c.in_ok-first.field-0) (line_text c.in_ok-second.field-0 ∷ lines_left c.next-2.new.self) two);
+      source = source ∙ sym (source_words-second c.args.bytes.now (line_text c.in_ok-first.field-0) (line_text c.in_ok-second.field-0) (lines_left c.next-2.new.self) two);
     }
