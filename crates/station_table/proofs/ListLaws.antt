@@ -1,5 +1,5 @@
 -- Tests of the items of a list.
-use Rattle.std.proofs.Common.{◌≡◌, ◌+◌, Bool, All, inl, inr, List, [], ◌∷◌, ◌++◌, length, refl, subst, arith}
+use Rattle.std.proofs.Common.{◌≡◌, Bool, All, inl, inr, List, [], ◌∷◌, ◌++◌, length, refl, subst, arith}
 use Rattle.std.specs.Prelude.{IfSome}
 use Rattle.std.specs.List.{list_any, find}
 use Rattle.std.proofs.lemmas.Bool.{cases_Bool}
