@@ -55,7 +55,7 @@ front_first included front (line ∷ rest) =
     let here : List ControlLine = with_file included (count_by is_include front) line in (
       here ++ more.0,
       ap (all_lines included) (sym (append_assoc front (line ∷ []) rest)) ∙ more.1 ∙ ap (λ ls. ls ++ more.0) (all_push included front line)
-      ∙ append_assoc (all_lines included front) here more.0,
+          ∙ append_assoc (all_lines included front) here more.0,
     )
 
 -- the draft follows all lines up to the one that was given last

@@ -25,7 +25,7 @@ pub of_same : (rules : Rules) (before : List Pick) (pick other : Pick) (noted : 
 of_same rules before pick other noted new same follows = subst (λ p. Follows rules (before ++ p ∷ []) noted new) same follows
 
 module _ (rules : Rules) (before : List Pick) (pick : Pick) (met noted : List Bool) (old new : Picks) (follows : Follows rules before met old) (notes : Notes rules (before ++ pick ∷ []) noted) where
-  -- a pick that has no reason is put behind the used ones
+  -- a pick that has no reason is put after the used ones
   pub follows_used : (used : UsedPick) (place : ℕ) → new.used.items ≡ old.used.items ++ used ∷ [] → new.skipped ≡ old.skipped
       → used ≡ used_pick_at (values_of rules.control.now) pick place → key_place rules.index (key_of (values_of rules.control.now) pick) ≡ Some place
       → reason_of (values_of rules.control.now) rules.index rules.places.now before pick ≡ None → Follows rules (before ++ pick ∷ []) noted new
@@ -44,7 +44,7 @@ module _ (rules : Rules) (before : List Pick) (pick : Pick) (met noted : List Bo
             ∙ sym (skipped_push control keys places before pick ∙ ap (λ ss. skipped_picks control keys places before ++ ss) none_left ∙ append-nil (skipped_picks control keys places before));
       }
 
-  -- and one that has a reason is put behind the skipped ones
+  -- and one that has a reason is put after the skipped ones
   pub follows_skipped : (skipped : Skip) (reason : Reason) → new.skipped.items ≡ old.skipped.items ++ skipped ∷ [] → new.used ≡ old.used
       → skipped ≡ skip (values_of rules.control.now) pick reason
       → reason_of (values_of rules.control.now) rules.index rules.places.now before pick ≡ Some reason → Follows rules (before ++ pick ∷ []) noted new

@@ -59,7 +59,7 @@ module _ {A B : Type 0} (f : A → B) (p : A → Bool) (q : B → Bool) (same : 
   pub position_of_map : (xs : List A) → position p xs ≡ position q (map f xs)
   position_of_map xs = rw (place_of_map xs, length-map xs f) refl
 
--- a key is put behind others as its words are put behind theirs
+-- a key is put after others as its words are put after theirs
 pub put_map : {A : Type 0} (f : A → GridKey) (eq : A → A → Bool) → ((x y : A) → eq x y ≡ same_key (f x) (f y)) → (xs : List A) (x : A)
     → map f (insert_key eq xs x) ≡ insert_key same_key (map f xs) (f x)
 put_map f eq same xs x = elim (cases_Bool (list_any (eq x) xs)) [
@@ -81,7 +81,7 @@ none_before keys i d differ below = elim (cases_Bool (list_any (same_key (get_or
       absurd cc
 ]
 
--- so the keys up to a place are put one behind the other
+-- so the keys up to a place are put one after the other
 pub put_next : (keys : List GridKey) (i : ℕ) (d : GridKey) → KeysDiffer keys → i < length keys
     → insert_key same_key (take i keys) (get_or keys i d) ≡ take (i + 1) keys
 put_next keys i d differ below = rw (none_before keys i d differ below) (sym (take_more keys i d below))

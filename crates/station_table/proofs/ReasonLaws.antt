@@ -1,5 +1,5 @@
 -- First reasons.
-use Rattle.std.proofs.Common.{◌≡◌, ◌≤◌, ◌^◌, pos, IsTrue, arith, Bool, true, false, List, [], ◌∷◌, ◌++◌, Option, Some, None, refl}
+use Rattle.std.proofs.Common.{◌≡◌, ◌≤◌, ◌^◌, pos, IsTrue, arith, Bool, true, false, [], ◌∷◌, None, refl}
 use Rattle.std.specs.Prelude.{int_lt, unsigned_abs}
 use Rattle.std.proofs.lemmas.Bool.{or_parts}
 use Rattle.std.proofs.lemmas.Int.{ints}

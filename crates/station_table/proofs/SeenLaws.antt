@@ -34,7 +34,7 @@ any_of_others key k (x ∷ xs) differ = elim (cases_Bool (same_key key x)) [
   | inr other ↦ rw other (ap (λ b. same_key k x || b) (any_of_others key k xs differ))
 ]
 
--- a key is put behind the others, or was there
+-- a key is put after the others, or was there
 others_put : (key k : GridKey) (keys : List GridKey) → key ∷ others key (insert_key same_key keys k) ≡ insert_key same_key (key ∷ others key keys) k
 others_put key k keys = elim (cases_Bool (same_key k key)) [
   | inl same ↦
@@ -106,7 +106,7 @@ any_of_seen k (key ∷ keys) = elim (cases_Bool (same_key k key)) [
 ]
 
 module _ (control : ControlValues) where
-  -- keys in front of and behind others
+  -- keys before and after others
   has_in_front : (keys more : List GridKey) (pick : Pick) → HoldsKeyOf control keys pick → HoldsKeyOf control (keys ++ more) pick
   has_in_front keys more pick has wanted =
       let test : GridKey → Bool = same_key (key_of control pick) in

@@ -1,5 +1,5 @@
 -- The reasons for which a pick isn't used, whatever the other picks are.
-use Rattle.std.specs.Prelude.{◌^◌, Bool, ◌&&◌, ◌||◌, if◌then◌else◌, List, [], ◌∷◌, Option, Some, None, pos, int_le, int_lt}
+use Rattle.std.specs.Prelude.{◌^◌, Bool, ◌&&◌, ◌||◌, if◌then◌else◌, [], ◌∷◌, Option, Some, None, pos, int_le, int_lt}
 use Rattle.std.specs.List.{list_any}
 use Rattle.std.specs.Str.{bytes_eq}
 use Rattle.text_terms.specs.Faults.{first_cause}

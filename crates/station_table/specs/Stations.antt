@@ -13,7 +13,7 @@ use Rattle.phase_reader.specs.declared.phases.Pick.{Pick}
 abbrev pub Day : Type 0
 Day = ℤ × ℤ × ℤ
 
--- a day isn't behind another one: the first of year, month and day that differs decides
+-- a day isn't after another one: the first of year, month and day that differs decides
 abbrev pub is_not_behind : Day → Day → Bool
 is_not_behind a b =
     int_lt a.0 b.0 || (int_eq a.0 b.0 && (int_lt a.1 b.1 || (int_eq a.1 b.1 && int_le a.2 b.2)))

@@ -1,6 +1,6 @@
 -- Which picks of an event are used.
-use Rattle.std.specs.Prelude.{◌≡◌, ℕ, ◌+◌, ◌*◌, Bool, true, false, ◌&&◌, nat_le, is_none, min, List, [], ◌∷◌, length, take, drop, map, count_by, Option, Some, None, unwrap_or, ℤ, pos, ◌-ℤ◌, int_lt, unsigned_abs}
-use Rattle.std.specs.List.{list_any, find, flat_map, range_with_len}
+use Rattle.std.specs.Prelude.{◌≡◌, ℕ, ◌+◌, ◌*◌, Bool, true, false, ◌&&◌, nat_le, is_none, min, List, [], ◌∷◌, count_by, Option, Some, None, unwrap_or, ℤ, pos, ◌-ℤ◌, int_lt, unsigned_abs}
+use Rattle.std.specs.List.{list_any, find, flat_map}
 use Rattle.std.specs.Option.{option_map}
 use Rattle.std.specs.Str.{bytes_eq}
 use Rattle.text_terms.specs.Prefixes.{with_those_before}

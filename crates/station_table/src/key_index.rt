@@ -52,7 +52,7 @@ impl<'a> KeyIndex<'a> {
         Ok(index)
     }
 
-    /// Puts a key behind the others, unless it is there.
+    /// Puts a key after the others, unless it is there.
     pub(crate) fn put(&mut self, words: KeyWords<'a>) -> Result<(), AllocError>
         ensures { OnOk result (self.new ≡ insert_key same_key self.old (as_key words.entry)) }
     {

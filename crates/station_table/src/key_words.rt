@@ -1,8 +1,8 @@
 //! The words of a key, each where it stands.
-ghost use Rattle.std.specs.Prelude.{◌≡◌, IfOk};
+ghost use Rattle.std.specs.Prelude.{◌≡◌, IfOk, IsTrue};
+ghost use Rattle.text_terms.specs.Names.{is_name};
 ghost use Rattle.control_reader.specs.ControlValues.{values_of};
 ghost use Rattle.station_table.specs.Keys.{key_for, is_converted as spec_is_converted};
-ghost use Rattle.station_table.specs.Inside.KeyWords.{as_key};
 
 use crate::keys::GridKey;
 use control_reader::Control;
@@ -16,9 +16,12 @@ pub(crate) struct KeyWords<'a> {
     phase: &'a Name,
     grid_phase: &'a str,
     converted: bool,
+    ghost named: { IsTrue (is_name 512 grid_phase.now) },
 }
 
 impl<'a> KeyWords<'a> {
+    ghost use Rattle.station_table.specs.Inside.KeyWords.{as_key};
+
     /// The words of a key.
     pub(crate) fn of(key: &'a GridKey) -> KeyWords<'a>
         ensures { as_key result ≡ key.now }

@@ -17,8 +17,8 @@ pub fn first_ones_are_used()
         → is_beyond control keys places before ≡ is_full control (length (used_picks control keys places before)) }
 {}
 
-/// Each pick of an event is in exactly one of the two lists: one more pick stands behind the used ones where it has no reason, and else
-/// behind the skipped ones.
+/// Each pick of an event is in exactly one of the two lists: one more pick stands after the used ones where it has no reason, and else
+/// after the skipped ones.
 pub fn each_pick_is_in_one_list()
     ensures count { (control : ControlValues) (keys : List GridKey) (places : List Place) (picks : List Pick)
         → length (used_picks control keys places picks) + length (skipped_picks control keys places picks)

@@ -34,7 +34,7 @@ fn is_alias_of(pick: &Pick, alias: &Alias) -> bool
         && is_not_behind(pick.day, alias.to)
 }
 
-// Whether a day isn't behind another one: year, month and day are compared in this order.
+// Whether a day isn't after another one: year, month and day are compared in this order.
 fn is_not_behind(day: (i64, i64, i64), other: (i64, i64, i64)) -> bool
     ensures { result ≡ spec.is_not_behind day other }
 {

@@ -78,7 +78,11 @@ pub(crate) fn millionths_from_to(
 }
 
 /// The decimal at a place in millionths, at most so great in size, or else `Limit`.
-pub(crate) fn millionths_in_size(words: &PlacedWords, place: usize, most: u64) -> Result<i64, ControlCause>
+pub(crate) fn millionths_in_size(
+    words: &PlacedWords,
+    place: usize,
+    most: u64,
+) -> Result<i64, ControlCause>
     requires { place < 15 }
     ensures value { IfOk result (λ n. n ≡ millionths_at place (placed_words words.now)) }
     ensures range { IfOk result (λ n. unsigned_abs n ≤ most) }
@@ -93,7 +97,11 @@ pub(crate) fn millionths_in_size(words: &PlacedWords, place: usize, most: u64) -
 }
 
 /// The decimal at a place in millionths, up to a greatest, or else `Limit`.
-pub(crate) fn millionths_at_most(words: &PlacedWords, place: usize, most: i64) -> Result<i64, ControlCause>
+pub(crate) fn millionths_at_most(
+    words: &PlacedWords,
+    place: usize,
+    most: i64,
+) -> Result<i64, ControlCause>
     requires { place < 15 }
     ensures value { IfOk result (λ n. n ≡ millionths_at place (placed_words words.now)) }
     ensures range { IfOk result (λ n. n ≤ℤ most) }
