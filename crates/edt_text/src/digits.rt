@@ -55,9 +55,7 @@ fn with_digit(value: u64, byte: u8, most: u64) -> Option<u64>
     if !byte.is_ascii_digit() {
         return None;
     }
-    let longer = value
-        .checked_mul(10)?
-        .checked_add(u64::from(byte - b'0'))?;
+    let longer = value.checked_mul(10)?.checked_add(u64::from(byte - b'0'))?;
     if longer > most {
         return None;
     }
