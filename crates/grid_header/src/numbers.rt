@@ -40,15 +40,15 @@ pub(crate) struct Numbers {
 
 impl Numbers {
     /// The numbers of the words, or `None` where one has no reading.
-    pub fn read(words: &HeaderWords) -> Option<Numbers>
-        ensures none { IfNone result (has_numbers (placed_words words.now.grid) (placed_words words.now.source) ≡ false) }
-        ensures some { IfSome result (AreNumbersOf (placed_words words.now.grid) (placed_words words.now.source)) }
+    pub fn read(two: &HeaderWords) -> Option<Numbers>
+        ensures none { IfNone result (has_numbers (placed_words two.now.grid) (placed_words two.now.source) ≡ false) }
+        ensures some { IfSome result (AreNumbersOf (placed_words two.now.grid) (placed_words two.now.source)) }
     {
         Some(Numbers {
-            counts: wholes(&words.grid, 0)?,
-            origin: lengths(&words.grid, 3)?,
-            spacing: lengths(&words.grid, 6)?,
-            source: lengths(&words.source, 1)?,
+            counts: wholes(&two.grid, 0)?,
+            origin: lengths(&two.grid, 3)?,
+            spacing: lengths(&two.grid, 6)?,
+            source: lengths(&two.source, 1)?,
         })
     }
 
@@ -81,29 +81,29 @@ impl Numbers {
     }
 }
 
-// The three whole numbers from a place on, or `None` where one has no reading.
-fn wholes(words: &PlacedWords, from: usize) -> Option<Triple>
-    requires { from ≤ 12 }
-    ensures none { IfNone result (list_all is_some (map whole_of (three_from from (placed_words words.now))) ≡ false) }
-    ensures some { IfSome result (λ n. map whole_of (three_from from (placed_words words.now)) ≡ three_numbers n) }
+// The three whole numbers from place `k` on, or `None` where one has no reading.
+fn wholes(line: &PlacedWords, k: usize) -> Option<Triple>
+    requires { k ≤ 12 }
+    ensures none { IfNone result (list_all is_some (map whole_of (three_from k (placed_words line.now))) ≡ false) }
+    ensures some { IfSome result (λ n. map whole_of (three_from k (placed_words line.now)) ≡ three_numbers n) }
 {
     Some(Triple {
-        x: read_whole(words.at(from)).ok()?,
-        y: read_whole(words.at(from + 1)).ok()?,
-        z: read_whole(words.at(from + 2)).ok()?,
+        x: read_whole(line.at(k)).ok()?,
+        y: read_whole(line.at(k + 1)).ok()?,
+        z: read_whole(line.at(k + 2)).ok()?,
     })
 }
 
-// The three lengths from a place on, or `None` where one has no reading.
-fn lengths(words: &PlacedWords, from: usize) -> Option<Triple>
-    requires { from ≤ 12 }
-    ensures none { IfNone result (list_all is_some (map millionths_of (three_from from (placed_words words.now))) ≡ false) }
-    ensures some { IfSome result (λ n. map millionths_of (three_from from (placed_words words.now)) ≡ three_numbers n) }
+// The three lengths from place `k` on, or `None` where one has no reading.
+fn lengths(line: &PlacedWords, k: usize) -> Option<Triple>
+    requires { k ≤ 12 }
+    ensures none { IfNone result (list_all is_some (map millionths_of (three_from k (placed_words line.now))) ≡ false) }
+    ensures some { IfSome result (λ n. map millionths_of (three_from k (placed_words line.now)) ≡ three_numbers n) }
 {
     Some(Triple {
-        x: read_millionths(words.at(from)).ok()?,
-        y: read_millionths(words.at(from + 1)).ok()?,
-        z: read_millionths(words.at(from + 2)).ok()?,
+        x: read_millionths(line.at(k)).ok()?,
+        y: read_millionths(line.at(k + 1)).ok()?,
+        z: read_millionths(line.at(k + 2)).ok()?,
     })
 }
 

@@ -1,5 +1,5 @@
 -- What the words of a pick mean, where they mean something.
-use Rattle.std.proofs.Common.{◌≡◌, ℕ, zero, suc, ◌+◌, ◌*◌, ◌-ℤ◌, ◌<◌, ◌≤◌, true, false, List, Option, Some, None, ℤ, pos, to_z, w8, w16, inl, inr, refl, ◌∙◌, arith}
+use Rattle.std.proofs.Common.{◌≡◌, ℕ, zero, suc, ◌+◌, ◌*◌, ◌-ℤ◌, ◌<◌, ◌≤◌, true, List, Option, Some, None, ℤ, pos, to_z, w8, w16, inl, inr, refl, ◌∙◌, arith}
 use Rattle.std.specs.Prelude.{nat_le, ◌&&◌, if◌then◌else◌}
 use Rattle.std.specs.Option.{option_map}
 use Rattle.std.specs.Int.{int_div_euclid}
@@ -40,10 +40,6 @@ clock_number word n o e is = elim (by_bool (is_clock n)) [
   | inl yes_n ↦ rw (e, yes_n) (is ∙ rw yes_n refl)
   | inr not_n ↦ rw (e, not_n) (is ∙ rw not_n refl)
 ]
-
--- the two tests on the year
-pub year_out : (n : ℕ) → (nat_le 1000 (year_of n) && nat_le (year_of n) 9998) ≡ false → is_date n ≡ false
-year_out n out = grind (arith, common_steps)
 
 -- tests that all pass
 date_by_parts : (n : ℕ) → (nat_le 1000 (year_of n) && nat_le (year_of n) 9998) ≡ true → 1 ≤ month_of n → month_of n ≤ 12 → 1 ≤ day_of n
@@ -89,10 +85,6 @@ date_found n year month day y m d number date ey em ed years is ymd ey' em' ed' 
 pub weight_some : (word : List ℕ) (m : ℤ) → millionths_of word ≡ Some m → int_div_euclid m (pos 1000) ≡ weight_of (Some word)
 unfolding weight_of
 weight_some word m e = rw e refl
-
-pub weight_none : pos 1000 ≡ weight_of None
-unfolding weight_of
-weight_none = refl
 
 -- a year has at least 365 days
 year_days : (y : ℤ) → 365 ≤ days_in_year y

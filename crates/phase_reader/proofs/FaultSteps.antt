@@ -1,11 +1,11 @@
 -- The fault of a line, by its length and kind.
-use Rattle.std.proofs.Common.{◌≡◌, ℕ, ◌<◌, ◌≤◌, true, false, List, length, Some, None, refl, sym, ◌∙◌, ap, arith}
+use Rattle.std.proofs.Common.{◌≡◌, ℕ, ◌≤◌, true, false, List, length, Some, None, refl, sym, ◌∙◌, ap, arith}
 use Rattle.std.specs.Prelude.{nat_lt, nat_le, map}
 use Rattle.std.proofs.lemmas.Grind.{common_steps}
 use Rattle.text_terms.specs.Lines.{NumberedLine}
 use Rattle.text_terms.specs.Words.{words_of}
 use Rattle.phase_reader.specs.declared.fault.PhaseCause.{PhaseCause}
-use Rattle.phase_reader.specs.declared.fault.PhaseCause.TheVariants.{LongLine, Fields, Limit}
+use Rattle.phase_reader.specs.declared.fault.PhaseCause.TheVariants.{Fields, Limit}
 use Rattle.phase_reader.specs.declared.kind.LineKind.{LineKind}
 use Rattle.phase_reader.specs.declared.kind.LineKind.TheVariants.{PickLine}
 use Rattle.phase_reader.specs.LineKinds.{kind_of, kind_of_words}
@@ -18,12 +18,6 @@ use Rattle.phase_reader.specs.PhaseFile.{fault_after, kind_fault, limit_fault}
 pub kind_by_words : (line : NumberedLine) (words : List (List ℕ)) (kind : LineKind) → words ≡ words_of line.1 → kind ≡ kind_of_words words → kind_of line ≡ kind
 unfolding kind_of
 kind_by_words line words kind same is = sym (is ∙ ap kind_of_words same)
-
--- a line that is too long
-pub fault_long : (lines : List NumberedLine) (line : NumberedLine) → 4096 < length line.1 → fault_after lines line ≡ Some LongLine
-fault_long lines line long =
-    let over : nat_lt 4096 (length line.1) ≡ true = grind (arith, common_steps) in
-    rw over refl
 
 -- a line of this kind
 pub fault_kind : (lines : List NumberedLine) (line : NumberedLine) (kind : LineKind) → length line.1 ≤ 4096 → kind_of line ≡ kind

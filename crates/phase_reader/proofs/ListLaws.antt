@@ -3,7 +3,7 @@ use Rattle.std.proofs.Common.{◌≡◌, ℕ, zero, suc, ◌+◌, ◌<◌, ◌�
 use Rattle.std.specs.Prelude.{OnOk}
 use Rattle.std.specs.List.{slice_get, enumerate_from}
 
--- the element at a place, and what stands behind it
+-- the element at a place, and what stands after it
 pub record IsHere {A : Type 0} (k : ℕ) (xs : List A) (x : A) (rest : List A) : Type 0 where
   pub within : k < length xs
   pub here : slice_get xs k ≡ Some x

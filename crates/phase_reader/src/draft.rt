@@ -157,7 +157,7 @@ fn read_pick(alloc: Global, line: u32, words: &PlacedWords) -> Result<Pick, Phas
     ensures pick { IfOk result (λ pick. pick ≡ pick_of_words line (placed_words words.now)) }
     ensures limits { IfOk result IsPick }
     ensures good { OnOk result (words_fault (placed_words words.now) ≡ None) }
-    ensures fault { IfErr result (λ cause. cause ≢ PhaseCause.Memory → words_fault (placed_words words.now) ≡ Some cause) }
+    ensures fault { IfErr result (λ why. why ≢ PhaseCause.Memory → words_fault (placed_words words.now) ≡ Some why) }
 {
     let station = read_name(alloc, words.at(0))?;
     let phase = read_name(alloc, words.at(4))?;
