@@ -39,7 +39,7 @@ AreFine [] (line ∷ lines) = ⊥
 AreFine (wanted ∷ more) [] = ⊥
 AreFine (wanted ∷ more) (line ∷ lines) = (line_fault wanted line ≡ None) × AreFine more lines
 
--- behind lines without a fault
+-- after lines without a fault
 pub first_fault-after : (wanted more : List Wanted) (lines rest : List LineText) (number : ℕ) → AreFine wanted lines
     → first_fault (wanted ++ more) (lines ++ rest) number ≡ first_fault more rest (number + length lines)
 first_fault-after [] more [] rest number fine = ap (first_fault more rest) (omega arith)

@@ -10,7 +10,7 @@ pub record Came (bytes : List ℕ) (len : ℕ) (all : List ℕ) (left : Option (
   pub front : take len all ≡ take len bytes
   pub rest : left ≡ Some (drop len bytes)
 
--- a vector of m bytes that keeps its first `len` and takes a slice behind them
+-- a vector of m bytes that keeps its first `len` and takes a slice after them
 pub take-joined : (len n m : ℕ) (front into post more : List ℕ) → len ≤ length front → n ≤ length into → len + n ≤ m
     → take (len + n) (take m ((take len front ++ (into ++ post)) ++ more)) ≡ take len front ++ take n into
 take-joined len n m front into post more fits there room =
@@ -31,7 +31,7 @@ take-front len m front into more fits room =
     let flat : (take len front ++ into) ++ more ≡ take len front ++ (into ++ more) = append_assoc (take len front) into more in
     take-take len m _ room ∙ ap (take len) flat ∙ take-append-le len (take len front) (into ++ more) (omega arith) ∙ take-take len len front (omega arith)
 
--- a read into the place behind the first bytes of the vector
+-- a read into the place after the first bytes of the vector
 pub Came-read : (first before after : Option (List ℕ)) (len n : ℕ) (all mid into next : List ℕ) → IfSome first (λ bytes. Came bytes len all before)
     → take len mid ≡ take len all → take (len + n) next ≡ take len mid ++ take n into → IfSome before (λ unread. Gives unread n into after)
     → IfSome first (λ bytes. Came bytes (len + n) next after)

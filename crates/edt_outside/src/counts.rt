@@ -1,13 +1,6 @@
 //! Counts of calls that end at their last value.
-ghost use Rattle.std.specs.Prelude.{◌≡◌, ◌↔◌, ℕ, ◌-◌, ◌^◌, ◌<◌, Bool, IsTrue};
-ghost use Rattle.edt_outside.specs.Counts.{Rose, RisesExactly, one_more};
-
-/// A count that rises exactly where a test is true rose exactly there, as long as it has not come to
-/// its last value.
-pub fn rises_exactly()
-    ensures { (test : Bool) (before after : ℕ) → RisesExactly test before after → after < 2 ^ 64 - 1
-        → (IsTrue test ↔ Rose before after) }
-{}
+ghost use Rattle.std.specs.Prelude.{◌≡◌};
+ghost use Rattle.edt_outside.specs.Counts.{one_more};
 
 // A count after one more. It stays at its last value.
 pub(crate) fn count_up(count: u64) -> u64

@@ -9,6 +9,7 @@
 mod counts;
 mod dir_shelf;
 mod faults;
+mod laws;
 mod memory_shelf;
 mod memory_sink;
 mod names;
@@ -18,9 +19,9 @@ mod sinks;
 mod std_sink;
 mod writing;
 
-pub use counts::rises_exactly;
 pub use dir_shelf::DirShelf;
 pub use faults::{Failed, HasFault, OpenFault, PutFailed, ReadFault};
+pub use laws::rises_exactly;
 pub use memory_shelf::{MemoryShelf, names_differ};
 pub use memory_sink::MemorySink;
 pub use names::Name;

@@ -69,7 +69,7 @@ fn read_rest<S: Shelf>(alloc: Global, shelf: &mut S, limit: usize) -> Result<Vec
     Err(ReadFault::TooLong)
 }
 
-// Fills the vector up where it has no room behind its first `len` bytes, to at most `limit + 1`.
+// Fills the vector up where it has no room after its first `len` bytes, to at most `limit + 1`.
 fn make_room(all: &mut Vec<u8>, len: usize, limit: usize) -> Result<(), AllocError>
     requires within { len ≤ limit }
     requires filled { len ≤ vec_len all.old }

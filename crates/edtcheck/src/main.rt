@@ -11,7 +11,7 @@ use std::process::ExitCode;
 /// The status of a run that wanted memory, here while it fetched its words.
 const MEMORY: u8 = 6;
 
-/// Passes on the words behind the program's name, the folder that it runs in and the two outputs, and ends with the status.
+/// Passes on the words after the program's name, the folder that it runs in and the two outputs, and ends with the status.
 fn main(rt: HostRuntime) -> ExitCode {
     let alloc = rt.alloc();
     let mut out = StdSink::out(rt.stdout());
@@ -24,7 +24,7 @@ fn main(rt: HostRuntime) -> ExitCode {
     ExitCode::from(check_run(alloc, &words, &mut shelf, &mut out, &mut err))
 }
 
-/// The words behind the program's name. Where one isn't UTF-8 there are none, which have no shape either.
+/// The words after the program's name. Where one isn't UTF-8 there are none, which have no shape either.
 fn fetch_words(rt: &HostRuntime, alloc: Global) -> Result<Vec<String>, AllocError> {
     match env::args(rt) {
         Ok(words) => words.skip(1).collect(alloc),

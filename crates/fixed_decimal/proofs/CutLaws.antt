@@ -1,4 +1,4 @@
--- What stands before the first byte that passes a test, and behind it.
+-- What stands before the first byte that passes a test, and after it.
 use Rattle.std.proofs.Common.{◌≡◌, ℕ, ◌+◌, ◌-◌, ◌≤◌, cond, Bool, not, List, [], length, take, drop, Some, None, inl, inr, refl, sym, arith, add-one}
 use Rattle.std.specs.Prelude.{position, nat_lt, filter, count_by}
 use Rattle.std.specs.List.{position_or_len, before_first, after_first}
@@ -40,7 +40,7 @@ back_absent p xs absent =
     let past : length xs ≤ length xs + 1 = omega arith in
     rw (place_absent p xs absent) (sym (drop_of_length-le xs past))
 
--- no more bytes pass behind a place than in the whole list
+-- no more bytes pass after a place than in the whole list
 pub count_behind : (p q : ℕ → Bool) (xs : List ℕ) → count_by p (after_first q xs) ≤ length (filter p xs)
 count_behind p q xs =
     rw (length-filter p xs) (omega (arith, sum_by-take-drop (λ x. cond (p x) 1 0) xs (position_or_len q xs + 1)))

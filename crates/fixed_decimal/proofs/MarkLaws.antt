@@ -1,4 +1,4 @@
--- What stands before the mark and behind it, one byte further on.
+-- What stands before the mark and after it, one byte further on.
 use Rattle.std.proofs.Common.{◌≡◌, ℕ, suc, ◌+◌, true, false, List, [], ◌∷◌, take, drop, refl, arith}
 use Rattle.std.specs.List.{position_or_len}
 use Rattle.fixed_decimal.specs.Form.{is_mark, mantissa_of, exponent_of, has_mark}

@@ -25,7 +25,7 @@ accepted (Some s) = ends s
 some_first : (n : ℕ) (x : Bool) → (not (suc n == 0) && x) ≡ x
 some_first n x = let e : (suc n == 0) ≡ false = grind (arith, common_steps) in rw e refl
 
--- behind a digit of the exponent digits alone may stand
+-- after a digit of the exponent digits alone may stand
 accepted-digits : (bytes : List ℕ) → accepted (run (Exponent true) bytes) ≡ all_ascii_digits bytes
 accepted-digits [] = refl
 accepted-digits (b ∷ bytes) = elim (by_bool (is_ascii_digit b)) [
@@ -33,7 +33,7 @@ accepted-digits (b ∷ bytes) = elim (by_bool (is_ascii_digit b)) [
   | inr other ↦ rw other refl
 ]
 
--- behind its sign stands a numeral
+-- after its sign stands a numeral
 accepted-numeral : (bytes : List ℕ) → accepted (run (Exponent false) bytes) ≡ is_numeral bytes
 accepted-numeral [] = refl
 accepted-numeral (b ∷ bytes) = elim (by_bool (is_ascii_digit b)) [
@@ -41,7 +41,7 @@ accepted-numeral (b ∷ bytes) = elim (by_bool (is_ascii_digit b)) [
   | inr other ↦ rw other (sym (some_first (length bytes) false))
 ]
 
--- behind the mark stands the exponent
+-- after the mark stands the exponent
 accepted-exponent : (bytes : List ℕ) → accepted (run Mark bytes) ≡ is_exponent bytes
 accepted-exponent [] = refl
 accepted-exponent (b ∷ bytes) = elim (by_bool (is_sign b)) [
@@ -67,13 +67,13 @@ at_point : (digit point : Bool) (b : ℕ) (text : List ℕ) → is_mark b ≡ fa
 at_point digit true b text other goes_on = rw other refl
 at_point digit false b text other goes_on = goes_on
 
--- a mark may stand behind a digit
+-- a mark may stand after a digit
 at_mark : (digit : Bool) (text : List ℕ)
     → accepted (option_and_then (λ t. run t text) (if digit then Some Mark else None)) ≡ (digit && is_exponent text)
 at_mark true text = accepted-exponent text
 at_mark false text = refl
 
--- a text may end behind a digit
+-- a text may end after a digit
 at_end : (digit : Bool) → digit ≡ (digit && true)
 at_end true = refl
 at_end false = refl

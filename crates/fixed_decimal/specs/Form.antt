@@ -17,7 +17,7 @@ is_mark b = b == 101 || b == 69
 abbrev pub is_point : ℕ → Bool
 is_point b = b == 46
 
--- what stands behind an optional sign
+-- what stands after an optional sign
 abbrev pub without_sign : List ℕ → List ℕ
 without_sign [] = []
 without_sign (b ∷ bytes) = if is_sign b then bytes else b ∷ bytes
@@ -37,7 +37,7 @@ is_exponent bytes = is_numeral (without_sign bytes)
 abbrev pub mantissa_of : List ℕ → List ℕ
 mantissa_of text = before_first is_mark text
 
--- what stands behind the mark
+-- what stands after the mark
 abbrev pub exponent_of : List ℕ → List ℕ
 exponent_of text = after_first is_mark text
 

@@ -13,7 +13,7 @@ enum State {
     Mantissa { digit: bool, point: bool },
     // The mark was read.
     Mark,
-    // A sign or digits were read behind the mark.
+    // A sign or digits were read after the mark.
     Exponent { digit: bool },
 }
 

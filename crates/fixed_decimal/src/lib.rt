@@ -6,9 +6,11 @@
 #![tactic(auto)]
 
 mod form;
+mod laws;
 mod reading;
 mod size;
 #[cfg(test)]
 mod tests;
 
-pub use reading::{DecimalError, one_fault, one_nearest, read_millionths, read_whole};
+pub use laws::{one_fault, one_nearest};
+pub use reading::{DecimalError, read_millionths, read_whole};

@@ -1,5 +1,5 @@
 //! Decimals, read with their first fault.
-ghost use Rattle.std.specs.Prelude.{◌≡◌, ◌≢◌, ◌+◌, ◌*◌, ◌%◌, ◌/◌, ◌^◌, ◌<◌, ◌↔◌, ◌&&◌, not, ℕ, List, [], true, false, pos, ◌*ℤ◌, unsigned_abs, length, Some, None, IfOk, IfErr, IsErrOf};
+ghost use Rattle.std.specs.Prelude.{◌≡◌, ◌≢◌, ◌+◌, ◌*◌, ◌%◌, ◌/◌, ◌^◌, ◌<◌, ◌↔◌, ◌&&◌, not, ℕ, [], true, false, pos, ◌*ℤ◌, unsigned_abs, length, Some, None, IfOk, IfErr, IsErrOf};
 ghost use Rattle.fixed_decimal.specs.Form.{has_form};
 ghost use Rattle.fixed_decimal.specs.Leaving.{LeavesFormAt};
 ghost use Rattle.fixed_decimal.specs.Nearest.{IsNearest};
@@ -77,16 +77,6 @@ pub fn read_whole(text: &[u8]) -> Result<i64, DecimalError>
         Err(fault) => Err(fault),
     }
 }
-
-/// A text leaves the form of a decimal at one place at most, and then it has no reading.
-pub fn one_fault()
-    ensures { (text : List ℕ) (j k : ℕ) → LeavesFormAt text j → (millionths_of text ≡ None) × (LeavesFormAt text k → j ≡ k) }
-{}
-
-/// One whole number alone is nearest to a fraction.
-pub fn one_nearest()
-    ensures { (top bottom m n : ℕ) → 0 < bottom → IsNearest top bottom m → IsNearest top bottom n → m ≡ n }
-{}
 
 // The sign and the size of a decimal, or its first fault.
 fn read(text: &[u8]) -> Result<Rounded, DecimalError>

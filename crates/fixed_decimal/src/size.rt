@@ -46,7 +46,7 @@ fn scaled_digits(text: &[u8]) -> Option<Scaled>
     })
 }
 
-// What stands before the mark, and what stands behind it.
+// What stands before the mark, and what stands after it.
 fn split_at_mark(text: &[u8]) -> (&[u8], &[u8])
     ensures front { result.0.now ≡ mantissa_of text.now }
     ensures back { result.1.now ≡ exponent_of text.now }

@@ -12,14 +12,14 @@ use crate::header::Header;
 use crate::words::HeaderWords;
 use edt_text::PlacedWords;
 use fixed_decimal::{read_millionths, read_whole};
+use node_boxes::FARTHEST_ORIGIN;
 
-const MOST_ON_AXIS: i64 = 4096;
+// The limits of grids, as the numbers that are read; a time grid has more nodes than a search grid.
+const MOST_ON_AXIS: i64 = node_boxes::MOST_ON_AXIS as i64;
 
-const MOST_NODES: u64 = 16_000_000;
+const MOST_TIME_NODES: u64 = 16_000_000;
 
-const MOST_SPACING: i64 = 1_000_000_000;
-
-const MOST_COORDINATE: u64 = 10_000_000_000;
+const WIDEST_SPACING: i64 = node_boxes::WIDEST_SPACING as i64;
 
 // A number for each axis.
 #[derive(Clone, Copy)]
@@ -126,7 +126,7 @@ fn are_few(x: u64, y: u64, z: u64) -> bool
     requires z_few { z ≤ 4096 }
     ensures { result ≡ nat_le (x * y * z) 16000000 }
 {
-    x * y * z <= MOST_NODES
+    x * y * z <= MOST_TIME_NODES
 }
 
 fn are_spacings(n: &Triple) -> bool
@@ -150,11 +150,11 @@ fn is_count(n: i64) -> bool
 fn is_spacing(n: i64) -> bool
     ensures { result ≡ is_spacing (Some n) }
 {
-    (1..=MOST_SPACING).contains(&n)
+    (1..=WIDEST_SPACING).contains(&n)
 }
 
 fn is_coordinate(n: i64) -> bool
     ensures { result ≡ is_coordinate (Some n) }
 {
-    n.unsigned_abs() <= MOST_COORDINATE
+    n.unsigned_abs() <= FARTHEST_ORIGIN
 }

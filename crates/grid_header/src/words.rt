@@ -5,7 +5,7 @@ ghost use Rattle.grid_header.specs.Inside.Parts.{AreHeaderWords};
 
 use edt_text::{Lines, PlacedWords, Words};
 
-const MOST_BYTES: usize = 4096;
+const LONGEST_LINE: usize = 4096;
 
 /// The words of a header's first two lines by their places.
 #[derive(Clone, Copy)]
@@ -23,7 +23,7 @@ pub(crate) fn header_words<'a>(bytes: &'a [u8]) -> Option<HeaderWords<'a>>
     let mut lines = Lines::new(bytes);
     let first = lines.next()?.bytes;
     let second = lines.next()?.bytes;
-    if first.len() > MOST_BYTES || second.len() > MOST_BYTES {
+    if first.len() > LONGEST_LINE || second.len() > LONGEST_LINE {
         return None;
     }
     let grid = PlacedWords::new(Words::new(first));

@@ -16,7 +16,7 @@ pub appends_none : (before after : Option (List ℕ)) → after ≡ before → A
 appends_none None after same = tt
 appends_none (Some taken) after same = same ∙ ap Some (sym (append-nil taken))
 
--- a text, and a front of the piece behind it, are a front of the whole
+-- a text, and a front of the piece after it, are a front of the whole
 pub front_of_whole : (xs piece rest whole : List ℕ) (k : ℕ) → whole ≡ (xs ++ piece) ++ rest → xs ++ take k piece ≡ take (length (xs ++ take k piece)) whole
 front_of_whole xs piece rest whole k is =
     let tail : take k piece ++ (drop k piece ++ rest) ≡ piece ++ rest = sym (append_assoc (take k piece) (drop k piece) rest) ∙ ap (λ p. p ++ rest) (take-append-drop k piece) in

@@ -38,7 +38,7 @@ drop_one_more zero bytes = refl
 drop_one_more (suc k) [] = refl
 drop_one_more (suc k) (b ∷ bytes) = drop_one_more k bytes
 
--- what stands behind the first byte of a rest
+-- what stands after the first byte of a rest
 pub behind_first : (bytes rest : List ℕ) (k : ℕ) → rest ≡ drop k bytes → take (length rest - 1) (drop 1 rest) ≡ drop (suc k) bytes
 behind_first bytes rest k is =
     take_all (length rest - 1) (drop 1 rest) (omega (arith, length-drop 1 rest)) ∙ rw is (drop_one_more k bytes)

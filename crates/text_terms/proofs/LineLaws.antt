@@ -1,4 +1,4 @@
--- The first line of bytes, and the lines behind it.
+-- The first line of bytes, and the lines after it.
 use Rattle.std.proofs.Common.{◌≡◌, ℕ, inl, inr, ◌<◌, Bool, true, false, List, [], ◌∷◌, ◌++◌, length, get_or, All, refl, ◌∙◌, ap, arith}
 use Rattle.std.specs.Prelude.{◌==◌}
 use Rattle.std.specs.List.{slice_split, onto_first}
@@ -26,7 +26,7 @@ cut_some p (b ∷ bytes) = elim (by_bool (p b)) [
       (some.0, (some.1.0, slice_split-cons_no p b bytes not_here ∙ some.1.1))
 ]
 
--- a part with other parts behind it is an ended line
+-- a part with other parts after it is an ended line
 parts_some : (part : List ℕ) (parts : List (List ℕ)) (some : (next : List ℕ) × ((more : List (List ℕ)) × (parts ≡ next ∷ more)))
     → lines_of_parts (part ∷ parts) ≡ record { bytes = part; ended = true } ∷ lines_of_parts parts
 parts_some part [] some = absurd (let e : [] ≡ some.0 ∷ some.1.0 = some.1.1 in cc)

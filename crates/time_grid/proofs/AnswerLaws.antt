@@ -92,7 +92,7 @@ pub taken_are_selected : (order : ByteOrder) (bytes : List ℕ) (nodes : ℕ) (s
 taken_are_selected order bytes nodes s into selection taken k below =
     taken k below ∙ sym (body_times-at order bytes nodes (selected_node s k) (selected_below nodes s k selection below))
 
--- one more selected time behind those that were taken
+-- one more selected time after those that were taken
 pub selected_more : (times : List ℕ) (s : Selection) (items : List ℕ) (n node : ℕ) → length items ≡ n → node ≡ selected_node s n
     → ((k : ℕ) → k < n → get_or items k 0 ≡ get_or times (selected_node s k) 0)
     → (k : ℕ) → k < n + 1 → get_or (items ++ get_or times node 0 ∷ []) k 0 ≡ get_or times (selected_node s k) 0

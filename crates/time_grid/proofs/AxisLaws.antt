@@ -14,7 +14,7 @@ use Rattle.time_grid.specs.Inside.Steps.{ArePlaces}
 use Rattle.time_grid.proofs.PositionLaws.{position_is, position_is_none}
 use Rattle.time_grid.proofs.StepLaws.{same_factor, IsOff}
 
--- an axis by how far its first search node lies behind the first node of the time grid
+-- an axis by how far its first search node lies after the first node of the time grid
 pub record IsSeen (a : AxisPair) (offset d s : ℕ) : Type 0 where
   pub origin : a.origin ≡ a.time_origin +ℤ pos offset
   pub time_spacing : a.time_spacing ≡ pos d

@@ -68,13 +68,13 @@ Came-none (Some bytes) order s done buffer into start = record {
   taken = λ k below. absurd (omega arith);
 }
 
--- `total` bytes stand at the front of the buffer, behind `passed` numbers
+-- `total` bytes stand at the front of the buffer, after `passed` numbers
 pub record Filled (bytes : List ℕ) (passed total : ℕ) (buffer : List ℕ) (left : Option (List ℕ)) : Type 0 where
   pub within : 4 * passed + total ≤ length bytes
   pub rest : left ≡ Some (drop (4 * passed + total) bytes)
   pub front : (i : ℕ) → i < total → get_or buffer i 0 ≡ get_or bytes (4 * passed + i) 0
 
--- a read behind the bytes that are held
+-- a read after the bytes that are held
 pub Filled-read : (order : ByteOrder) (bytes : List ℕ) (s : Selection) (passed held done n : ℕ) (buffer into mid : List ℕ) (over : Option ℕ)
     (before after : Option (List ℕ)) → Came order bytes s passed held done buffer into over before
     → IfSome before (λ unread. IsAfter unread n held mid after)
@@ -106,7 +106,7 @@ piece_number order bytes passed total mid after filled k whole =
     let place : 4 * passed + (4 * k + i) ≡ 4 * (passed + k) + i = omega arith in
     get_or-take total mid (4 * k + i) 0 (omega arith) ∙ filled.front (4 * k + i) (omega arith) ∙ ap (λ j. get_or bytes j 0) place)
 
--- what the whole numbers of a piece and the bytes behind them are after the piece was taken
+-- what the whole numbers of a piece and the bytes after them are after the piece was taken
 pub Came-next : (order : ByteOrder) (bytes : List ℕ) (s : Selection) (passed total done next : ℕ) (mid buffer into now : List ℕ)
     (over later : Option ℕ) (after : Option (List ℕ)) → Filled bytes passed total mid after → total ≤ length mid
     → IsFirstOver (number_at order bytes) passed over
@@ -175,7 +175,7 @@ limit_more order s passed done next piece into now over later old before within 
       rw one.value (within none (selected_node s k - passed) (omega arith))
 ]
 
--- a cursor that no number is left for is behind its last place
+-- a cursor that no number is left for is after its last place
 pub cursor_ends : (nodes passed : ℕ) (c : Cursor) → IsCursor nodes c → IsAhead passed c → nodes ≤ passed → node_count (selection_size c.selection) ≤ c.done
 cursor_ends nodes passed c cursor ahead all = elim (cases_lt c.done (node_count (selection_size c.selection))) [
   | inl left ↦

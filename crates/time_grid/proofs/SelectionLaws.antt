@@ -34,7 +34,7 @@ cursor_node nodes c cursor =
     let node : c.node ≡ selected_at s c.ix c.iy c.iz = omega (arith, cursor.node, cursor.row, cursor.plane) in
     node ∙ sym (ap (λ (p : ℕ × ℕ × ℕ). selected_at s p.0 p.1 p.2) at)
 
--- a cursor that is not behind the last place
+-- a cursor that is not after the last place
 pub cursor_inside : (nodes : ℕ) (c : Cursor) → IsCursor nodes c → c.done < node_count (selection_size c.selection) → c.ix < c.selection.x
 cursor_inside nodes c cursor left =
     let s = c.selection in

@@ -1,4 +1,4 @@
--- An axis whose first search node lies `offset` behind the first node of the time grid: its nodes are s apart, those of the time grid d.
+-- An axis whose first search node lies `offset` after the first node of the time grid: its nodes are s apart, those of the time grid d.
 use Rattle.std.proofs.Common.{◌≡◌, ◌≢◌, ℕ, ◌+◌, ◌*◌, ◌-◌, ◌/◌, ◌%◌, ◌<◌, ◌≤◌, zero, suc, arith, sym, ap, ◌∙◌}
 use Rattle.std.proofs.lemmas.Nat.{div-add-mod', same_from_place}
 use Rattle.std.proofs.Math.Nat.{mul-mod_left, add-mul-mod_self_left}

@@ -21,7 +21,7 @@ pub(crate) struct AxisPair {
     pub nodes: u32,
 }
 
-/// Where the search nodes of an axis are among the nodes of the time grid: the first at node `first`, each other `stride` nodes behind
+/// Where the search nodes of an axis are among the nodes of the time grid: the first at node `first`, each other `stride` nodes after
 /// the one before it.
 #[derive(Clone, Copy)]
 pub(crate) struct Places {
@@ -84,7 +84,7 @@ impl AxisPair {
     }
 }
 
-/// An axis whose first search node lies `offset` millimetres behind the first node of the time grid.
+/// An axis whose first search node lies `offset` millimetres after the first node of the time grid.
 #[derive(Clone, Copy)]
 struct Steps {
     offset: u64,

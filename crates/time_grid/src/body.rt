@@ -89,7 +89,7 @@ fn read_open<S: Shelf>(
     Err(GridFault::Long)
 }
 
-// Reads behind the first `held` bytes of the buffer, and answers how many bytes came.
+// Reads after the first `held` bytes of the buffer, and answers how many bytes came.
 fn fill<S: Shelf>(shelf: &mut S, buffer: &mut [u8], held: usize) -> Result<usize, Failed>
     requires { held < length buffer.old }
     ensures same_files { S.files shelf.new ≡ S.files shelf.old }
@@ -129,7 +129,7 @@ fn later_over(over: Option<usize>, order: ByteOrder, passed: usize, piece: &[u8]
     }
 }
 
-// The answer where the file ended behind `passed` numbers.
+// The answer where the file ended after `passed` numbers.
 fn judge(nodes: usize, passed: usize, over: Option<usize>) -> Result<(), GridFault>
     requires few { nodes ≤ 16000000 }
     requires passed { passed ≤ nodes }

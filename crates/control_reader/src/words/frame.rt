@@ -11,14 +11,12 @@ ghost use Rattle.control_reader.specs.WordFaults.{axis_fault, frame_fault};
 use super::numbers::{millionths_from_to, millionths_in_size, whole_from_to};
 use crate::fault::ControlCause;
 use edt_text::PlacedWords;
-use node_boxes::{Frame, Grid};
+use node_boxes::{FARTHEST_ORIGIN, Frame, Grid};
 
-// Limits of this project: nodes on an axis, and millimetres of an origin and of a spacing.
-const MOST_ON_AXIS: i64 = 4096;
+// The limits of grids, as the numbers that are read.
+const MOST_ON_AXIS: i64 = node_boxes::MOST_ON_AXIS as i64;
 
-const FARTHEST_ORIGIN: u64 = 10_000_000_000;
-
-const WIDEST_SPACING: i64 = 1_000_000_000;
+const WIDEST_SPACING: i64 = node_boxes::WIDEST_SPACING as i64;
 
 /// What `LOCGRID` says: the search grid and where it lies.
 #[tactic(auto, unfolding(crate::specs::WordFaults::frame_fault, crate::specs::Values::frame_of))]

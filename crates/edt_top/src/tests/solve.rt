@@ -213,7 +213,7 @@ fn ends_with_a_failing_write_and_passes_over_failing_errors(rt: HostRuntime) -> 
 #[test]
 fn ends_with_a_faulty_file_where_the_errors_fail(rt: HostRuntime) -> Result<(), Fail> {
     let alloc = rt.alloc();
-    // The first write to the errors fails, or the third, behind the two that the first piece takes.
+    // The first write to the errors fails, or the third, after the two that the first piece takes.
     for (write, err) in [(1, ""), (3, "edtloc: problem ")] {
         let failing = [write];
         let mut run = plain(&["solve", "problem"]);

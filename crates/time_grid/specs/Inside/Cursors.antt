@@ -7,7 +7,7 @@ use Rattle.time_grid.specs.declared.numbers.ByteOrder.{ByteOrder}
 use Rattle.time_grid.specs.Numbers.{number_at}
 use Rattle.time_grid.specs.Inside.Selections.{IsSelection, selection_size}
 
--- the cursor is at a place of its selection or behind the last one, and its numbers are those of the place
+-- the cursor is at a place of its selection or after the last one, and its numbers are those of the place
 pub record IsCursor (nodes : ℕ) (c : Cursor) : Type 0 where
   pub selection : IsSelection nodes c.selection
   pub ix : c.ix ≤ c.selection.x

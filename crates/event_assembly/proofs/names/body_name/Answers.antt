@@ -16,6 +16,6 @@ of_valid-requires c = record {
 pub returns : goal.returns
 returns c =
     let text = c.in_ok-text.ensures.ok in
-    named c.of_valid.result (λ name. name ≡ c.as_bytes.result.now) (λ name. name ≡ body_name (values_of c.args.control.now) c.args.key.now) c.of_valid.ensures
+    named c.of_valid.result (λ name. name ≡ c.as_bytes.result.now) (λ name. name ≡ body_name (values_of c.args.control.now) c.args.key.now) c.of_valid.ensures.name
     (λ name same. same ∙ c.as_bytes.ensures.value ∙ text
     ∙ rw (c.as_str-root.ensures.text, c.as_str-phase.ensures.text, c.as_str-station.ensures.text) (body_name-joined (values_of c.args.control.now) c.args.key.now))

@@ -12,10 +12,10 @@ pub returns-in_err-second-clause-none : goal.returns-in_err-second-clause-none
 returns-in_err-second-clause-none c =
     if_none _ (shape-one_line c.args.bytes.now (line_text c.in_ok-first.field-0) (rw c.in_err-second.ensures.end.0 at (sym c.new-lines.ensures.lines ∙ c.in_ok-first.ensures.line)))
 
-pub returns-then-first-gt-MOST_BYTES-clause-none : goal.returns-then-first-gt-MOST_BYTES-clause-none
-returns-then-first-gt-MOST_BYTES-clause-none c =
+pub returns-then-first-gt-LONGEST_LINE-clause-none : goal.returns-then-first-gt-LONGEST_LINE-clause-none
+returns-then-first-gt-LONGEST_LINE-clause-none c =
     let two = two_given _ _ _ _ _ _ c.new-lines.ensures.lines c.in_ok-first.ensures.line c.in_ok-second.ensures.line in
-    shape-long _ _ _ _ two c.then-first-gt-MOST_BYTES.either
+    shape-long _ _ _ _ two c.then-first-gt-LONGEST_LINE.either
 
 pub returns-then-not-has-clause-none : goal.returns-then-not-has-clause-none
 returns-then-not-has-clause-none c =
@@ -34,7 +34,7 @@ returns-clause-some c =
     let source = c.new-source.ensures ∙ c.new-2.ensures in
     record {
       shape =
-          shape-whole _ _ _ _ two c.if-first-gt-MOST_BYTES.false c.if-second-gt-MOST_BYTES.false
+          shape-whole _ _ _ _ two c.if-first-gt-LONGEST_LINE.false c.if-second-gt-LONGEST_LINE.false
           (rw grid at (sym c.has.ensures ∙ c.if-not-has.false)) (rw source at (sym c.has-2.ensures ∙ c.if-not-has-2.false));
       grid = grid ∙ sym (grid_words-first c.args.bytes.now (line_text c.in_ok-first.field-0) (line_text c.in_ok-second.field-0 ∷ lines_left c.next-2.new.self) two);
       source = source ∙ sym (source_words-second c.args.bytes.now (line_text c.in_ok-first.field-0) (line_text c.in_ok-second.field-0) (lines_left c.next-2.new.self) two);

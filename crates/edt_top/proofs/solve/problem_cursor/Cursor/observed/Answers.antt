@@ -6,7 +6,7 @@ use Rattle.edt_top.specs.Solve.ProblemFile.{Words, Observed, signed_of, signed_a
 use Rattle.edt_top.proofs.SolveLaws.ProblemSteps.{sound_step, named}
 use Rattle.edt_top.proofs.solve.problem_cursor.Cursor.observed.Goals as goal
 
--- the time of the first pick, where the word is that time itself or stands behind it
+-- the time of the first pick, where the word is that time itself or stands after it
 first_time_is : (words : Words) (k : ℕ) (first : Option ℤ) (word : Option (List ℕ)) → first ≡ (if k == 6 then None else Some (signed_at words 6))
     → word ≡ slice_get words k → unwrap_or first (signed_of (unwrap_or word [])) ≡ signed_at words 6
 first_time_is words k first word is at =
