@@ -1,10 +1,9 @@
 -- The names of the files of a time grid, as they are written.
-use Rattle.std.proofs.Common.{◌≡◌, ℕ, ◌+◌, ◌≤◌, true, false, List, ◌∷◌, ◌++◌, length, get_or, Some, IfOk, Result, Ok, Err, refl, ◌∙◌, append_assoc, length-append, arith}
-use Rattle.std.specs.Prelude.{codes, ◌&&◌, nat_le, not, position, IsTrue}
+use Rattle.std.proofs.Common.{◌≡◌, ℕ, ◌+◌, ◌≤◌, true, List, ◌∷◌, ◌++◌, length, IfOk, Result, Ok, Err, refl, ◌∙◌, append_assoc, length-append, arith}
+use Rattle.std.specs.Prelude.{codes, ◌&&◌, nat_le, IsTrue}
 use Rattle.std.specs.List.{list_all}
-use Rattle.std.proofs.lemmas.Bool.{and_parts, leb-true, le-leb, not-true}
-use Rattle.std.proofs.lemmas.List.Folds.{list_all-append, list_all_at}
-use Rattle.std.proofs.lemmas.List.Quantifiers.{position-Some}
+use Rattle.std.proofs.lemmas.Bool.{and_parts, leb-true, le-leb}
+use Rattle.std.proofs.lemmas.List.Folds.{list_all-append}
 use Rattle.text_terms.specs.Names.{is_name, is_name_byte}
 use Rattle.control_reader.specs.ControlValues.{ControlValues}
 use Rattle.station_table.specs.declared.keys.GridKey.{GridKey}

@@ -1,10 +1,9 @@
 -- The items of a list, each with those before it.
 use Rattle.std.proofs.Common.{◌≡◌, ℕ, suc, ◌+◌, ◌<◌, ◌≤◌, All, List, [], ◌∷◌, ◌++◌, length, take, drop, map, get_or, refl, ap, ◌∙◌, arith}
 use Rattle.std.specs.List.{flat_map, range_with_len}
-use Rattle.std.proofs.lemmas.List.{append-nil, take_at, drop_at, take-append-le, drop-append-le, length-append, length-drop, length-map, length_push}
+use Rattle.std.proofs.lemmas.List.{append-nil, take_at, drop_at, take-append-le, drop-append-le, length-drop, length_push}
 use Rattle.std.proofs.lemmas.List.Concat.{flat_map-append}
 use Rattle.std.proofs.lemmas.List.Elements.{All-map, All-take, All-drop}
-use Rattle.std.proofs.lemmas.List.FromFn.{length-range_with_len}
 use Rattle.text_terms.specs.Prefixes.{with_those_before_at, with_those_before}
 use Rattle.text_terms.proofs.ListLaws.{All-flat_map, range_push, range_same}
 
@@ -34,7 +33,7 @@ module _ {A : Type 0} where
       ∙ ap (λ m. flat_map (with_those_before_at all) (range_with_len 0 n ++ m ∷ [])) first
       ∙ flat_map-append (with_those_before_at all) (range_with_len 0 n) (n ∷ [])
       ∙ (λ j. range_same (with_those_before_at all) (with_those_before_at items) 0 n (λ k below. at_push items item k (omega arith)) j
-          ++ (append-nil (with_those_before_at all n) ∙ at_end items item) j)
+      ++ (append-nil (with_those_before_at all n) ∙ at_end items item) j)
 
   -- what holds of each item holds of each with those before it
   pub with_before : (Q : A → Type 0) (items : List A) → All Q items → All (λ (p : List A × A). Q p.1) (with_those_before items)

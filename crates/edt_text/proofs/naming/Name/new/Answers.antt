@@ -1,6 +1,5 @@
-use Rattle.std.proofs.Common.{◌≡◌, ◌<◌, length, true, sym, arith}
+use Rattle.std.proofs.Common.{◌<◌, length, sym, arith}
 use Rattle.std.proofs.lemmas.Grind.{common_steps}
-use Rattle.text_terms.specs.Names.{is_name}
 use Rattle.edt_text.proofs.NameLaws.{is_name-from_search}
 use Rattle.edt_text.proofs.naming.Name.new.Goals as goal
 
