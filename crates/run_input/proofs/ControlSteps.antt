@@ -26,23 +26,26 @@ use Rattle.text_terms.proofs.CauseLaws.{first_of_second, first_of_first, first_h
 abbrev pub IsMain : Files → List ℕ → Vec ℕ → Type 0
 IsMain files name main = (file_refusal name 1048576 (ControlTooLong 0) (files name) ≡ None) × IsFile (files name) 1048576 main
 
+-- what is looked at after a main file of these bytes
+abbrev after_bytes : Files → List ℕ → List (Option Refusal)
+after_bytes files main =
+    include_refusal main ∷ included_refusals files (include_names main) ++ lines_refusal (lines_under files main) ∷ []
+
 -- the main file isn't there, or has too many bytes
 pub main_stops : (F : Option Files) (name : List ℕ) (refusal : Refusal)
     → IfSome F (λ files. is_untold refusal ≡ false → file_refusal name 1048576 (ControlTooLong 0) (files name) ≡ Some refusal)
     → IfSome F (λ files. is_untold refusal ≡ false → control_refusal files name ≡ Some refusal)
 unfolding control_refusal
 main_stops None name refusal told = tt
-main_stops (Some files) name refusal told = λ free. first_here _ _ refusal (told free)
+main_stops (Some files) name refusal told = λ free. first_here _ (after_bytes files (bytes_under files name)) refusal (told free)
 
 -- what is left after the main file
 after_main : (files : Files) (name : List ℕ) (main : Vec ℕ) → IsMain files name main
-    → control_refusal files name
-    ≡ first_cause (include_refusal main.items ∷ included_refusals files (include_names main.items) ++ lines_refusal (lines_under files main.items) ∷ [])
+    → control_refusal files name ≡ first_cause (after_bytes files main.items)
 unfolding control_refusal
 after_main files name main is =
     let under : bytes_under files name ≡ main.items = ap (λ o. unwrap_or o []) is.1.0 in
-    first_after _ _ is.0
-    ∙ ap (λ m. first_cause (include_refusal m ∷ included_refusals files (include_names m) ++ lines_refusal (lines_under files m) ∷ [])) under
+    first_after _ (after_bytes files (bytes_under files name)) is.0 ∙ ap (λ m. first_cause (after_bytes files m)) under
 
 -- a line that includes a file has a fault
 include_found : (main : List ℕ) (fault : ControlFault) → IsIncludeFault main fault → include_refusal main ≡ Some (control_is fault)
@@ -55,7 +58,9 @@ pub include_stops : (F : Option Files) (name : List ℕ) (main : Vec ℕ) (fault
     → IsIncludeFault main.items fault → IfSome F (λ files. control_refusal files name ≡ Some (control_is fault))
 include_stops None name main fault told is = tt
 include_stops (Some files) name main fault told is =
-    after_main files name main told ∙ first_here _ _ (control_is fault) (include_found main.items fault is)
+    after_main files name main told
+    ∙ first_here _ (included_refusals files (include_names main.items) ++ lines_refusal (lines_under files main.items) ∷ [])
+    (control_is fault) (include_found main.items fault is)
 
 -- no line that includes a file has a fault
 after_names : (files : Files) (name : List ℕ) (main : Vec ℕ) (names : List (List ℕ)) → IsMain files name main → AreIncludes main.items names
@@ -64,7 +69,7 @@ after_names files name main names is are =
     let none : include_refusal main.items ≡ None =
     ap (option_map include_fault) (faultless (name_fault_at (file_lines 0 main.items)) (length (file_lines 0 main.items)) are.faultless) in
     after_main files name main is
-    ∙ (first_after _ _ none
+    ∙ (first_after _ (included_refusals files (include_names main.items) ++ lines_refusal (lines_under files main.items) ∷ []) none
     ∙ ap (λ ns. first_cause (included_refusals files ns ++ lines_refusal (lines_under files main.items) ∷ [])) (sym are.listed))
 
 -- an included file isn't there, or has too many bytes
@@ -74,14 +79,15 @@ pub included_stops : (F : Option Files) (name : List ℕ) (main : Vec ℕ) (name
     → IfSome F (λ files. is_untold refusal ≡ false → control_refusal files name ≡ Some refusal)
 included_stops None name main names refusal told are stops = tt
 included_stops (Some files) name main names refusal told are stops =
-    λ free. after_names files name main names told are ∙ first_of_first (included_refusals files names) _ refusal (stops free)
+    λ free. after_names files name main names told are
+    ∙ first_of_first (included_refusals files names) (lines_refusal (lines_under files main.items) ∷ []) refusal (stops free)
 
 -- all files were read: what is left is that of their lines
 after_files : (files : Files) (name : List ℕ) (main : Vec ℕ) (names contents : List (List ℕ)) → IsMain files name main → AreIncludes main.items names
     → AreRead files names contents → control_refusal files name ≡ first_cause (lines_refusal (control_lines main.items contents) ∷ [])
 after_files files name main names contents is are read =
     after_names files name main names is are
-    ∙ (first_of_second (included_refusals files names) _ read.0
+    ∙ (first_of_second (included_refusals files names) (lines_refusal (lines_under files main.items) ∷ []) read.0
     ∙ ap (λ cs. first_cause (lines_refusal (control_lines main.items cs) ∷ [])) (ap (map (bytes_under files)) (sym are.listed) ∙ sym read.1))
 
 -- the control file has a fault
@@ -99,7 +105,7 @@ control_stops (Some files) name main names contents fault told are read is =
     let found : lines_refusal lines ≡ Some (control_is fault) =
     ap (option_map (control_fault lines)) (faulty (fault_at lines) (length lines) is.place fault.cause is.first)
     ∙ ap Some (control_found lines fault is.place is.line is.first.here) in
-    after_files files name main names contents told are read ∙ first_here _ _ (control_is fault) found
+    after_files files name main names contents told are read ∙ first_here _ [] (control_is fault) found
 
 -- it has a reading
 pub control_read : (F : Option Files) (name : List ℕ) (main : Vec ℕ) (names contents : List (List ℕ)) (control : Control)
@@ -113,7 +119,7 @@ control_read (Some files) name main names contents control told are read is =
     let under : bytes_under files name ≡ main.items = ap (λ o. unwrap_or o []) told.1.0 in
     let same : lines ≡ lines_under files (bytes_under files name) =
     ap (control_lines main.items) (read.1 ∙ ap (map (bytes_under files)) are.listed) ∙ ap (lines_under files) (sym under) in (
-      after_files files name main names contents told are read ∙ first_after _ _ none,
+      after_files files name main names contents told are read ∙ first_after _ [] none,
       says_values lines control is.says ∙ ap values_in same,
     )
 

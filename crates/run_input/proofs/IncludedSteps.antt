@@ -1,8 +1,9 @@
 -- Included files, read one after another.
-use Rattle.std.proofs.Common.{◌≡◌, ℕ, suc, ◌+◌, ◌<◌, ◌≤◌, List, [], ◌∷◌, ◌++◌, length, take, get_or, Option, Some, None, IfSome, unwrap_or, true, false, map, sym, ◌∙◌, ap, subst, arith}
+use Rattle.std.proofs.Common.{◌≡◌, ℕ, suc, ◌+◌, ◌<◌, ◌≤◌, List, [], ◌∷◌, ◌++◌, length, take, drop, get_or, Option, Some, None, IfSome, unwrap_or, true, false, map, sym, ◌∙◌, ap, subst, arith}
 use Rattle.std.proofs.Math.Seq.{take-suc}
 use Rattle.std.proofs.lemmas.List.{take_all, map-append}
 use Rattle.std.specs.Global.{Vec}
+use Rattle.std.specs.List.{enumerate_from}
 use Rattle.edt_outside.specs.Shelves.{Files}
 use Rattle.run_input.specs.declared.refusals.Refusal.{Refusal}
 use Rattle.run_input.specs.declared.refusals.Refusal.TheVariants.{ControlTooLong}
@@ -59,7 +60,13 @@ stops_here : (files : Files) (names contents : List (List ℕ)) (i : ℕ) (d : L
     → first_cause (included_refusals files names) ≡ Some refusal
 stops_here files names contents i d refusal within before told =
     ap first_cause (numbered_at (included_refusal files) names i d within)
-    ∙ (first_of_second (included_refusals files (take i names)) _ before.0 ∙ first_here _ _ refusal told)
+    ∙ (first_of_second (included_refusals files (take i names)) (here ∷ rest) before.0 ∙ first_here here rest refusal told)
+  where
+    here : Option Refusal
+    here = included_refusal files (i + 1, get_or names i d)
+
+    rest : List (Option Refusal)
+    rest = map (included_refusal files) (enumerate_from (i + 1 + 1) (drop (suc i) names))
 
 pub reads_stop : (F G : Option Files) (names contents : List (List ℕ)) (i number : ℕ) (name d : List ℕ) (refusal : Refusal) → G ≡ F → i < length names
     → name ≡ get_or names i d → number ≡ i + 1

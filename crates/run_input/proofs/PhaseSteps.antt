@@ -30,7 +30,7 @@ pub phases_stop : (F : Option Files) (name : List ℕ) (refusal : Refusal)
     → IfSome F (λ files. is_untold refusal ≡ false → phases_refusal files name ≡ Some refusal)
 unfolding phases_refusal
 phases_stop None name refusal told = tt
-phases_stop (Some files) name refusal told = λ free. first_here _ _ refusal (told free)
+phases_stop (Some files) name refusal told = λ free. first_here _ (picks_refusal (numbered_lines (bytes_under files name)) ∷ []) refusal (told free)
 
 -- what is left after the file
 after_file : (files : Files) (name : List ℕ) (bytes : Vec ℕ) → IsPhaseBytes files name bytes
@@ -38,7 +38,8 @@ after_file : (files : Files) (name : List ℕ) (bytes : Vec ℕ) → IsPhaseByte
 unfolding phases_refusal
 after_file files name bytes is =
     let under : bytes_under files name ≡ bytes.items = ap (λ o. unwrap_or o []) is.1.0 in
-    first_after _ _ is.0 ∙ ap (λ b. first_cause (picks_refusal (numbered_lines b) ∷ [])) under
+    first_after _ (picks_refusal (numbered_lines (bytes_under files name)) ∷ []) is.0
+    ∙ ap (λ b. first_cause (picks_refusal (numbered_lines b) ∷ [])) under
 
 -- it has a fault
 pub phases_faulty : (F : Option Files) (name : List ℕ) (bytes : Vec ℕ) (fault : PhaseFault)
@@ -50,7 +51,7 @@ phases_faulty (Some files) name bytes fault told is =
     let found : picks_refusal lines ≡ Some (phases_is fault) =
     ap (option_map phase_fault) (faulty (fault_at lines) (length lines) is.place fault.cause is.first)
     ∙ ap (λ (n : ℕ). Some (phases_is (record { line = n; cause = fault.cause }))) (sym is.line) in
-    after_file files name bytes told ∙ first_here _ _ (phases_is fault) found
+    after_file files name bytes told ∙ first_here _ [] (phases_is fault) found
 
 -- it has a reading
 pub phases_read : (F : Option Files) (name : List ℕ) (bytes : Vec ℕ) (phases : Phases)
@@ -61,7 +62,7 @@ phases_read (Some files) name bytes phases told is =
     let lines : List NumberedLine = numbered_lines bytes.items in
     let none : picks_refusal lines ≡ None = ap (option_map phase_fault) (faultless (fault_at lines) (length lines) is.faultless) in
     let under : bytes.items ≡ bytes_under files name = sym (ap (λ o. unwrap_or o []) told.1.0) in (
-      after_file files name bytes told ∙ first_after _ _ none,
+      after_file files name bytes told ∙ first_after _ [] none,
       record {
         passed = is.passed ∙ ap (λ b. count_by is_passed (numbered_lines b)) under;
         events = is.events ∙ ap (λ b. events_of (numbered_lines b)) under;

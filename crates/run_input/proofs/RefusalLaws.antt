@@ -1,9 +1,8 @@
 -- Files within their limits.
-use Rattle.std.proofs.Common.{◌≡◌, ℕ, ◌≤◌, false, List, [], ◌∷◌, ◌++◌, length, Option, Some, None, if◌then◌else◌, refl, ◌∙◌, ap, arith}
+use Rattle.std.proofs.Common.{◌≡◌, ℕ, ◌≤◌, false, List, length, Option, Some, None, if◌then◌else◌, ◌∙◌, ap, arith}
 use Rattle.std.proofs.lemmas.Bool.Decides.{nat_tests}
 use Rattle.std.specs.Prelude.{nat_lt}
 use Rattle.run_input.specs.declared.refusals.Refusal.{Refusal}
-use Rattle.text_terms.specs.Faults.{first_cause}
 use Rattle.run_input.specs.FirstRefusals.{file_refusal}
 
 -- a file that is there and within its limit
