@@ -34,7 +34,7 @@ demo_of (Some seed) None = None
 demo_of (Some seed) (Some side) = if nat_le 1 side && nat_le side 64 then Some (Demo seed side) else None
 
 -- the command of a word, on a seed and a side, each the shortest decimal of a number below 2^64
-abbrev pub command_from : List ℕ → List ℕ → List ℕ → Option RunCommand
+unfoldable pub command_from : List ℕ → List ℕ → List ℕ → Option RunCommand
 command_from word seed side = if bytes_eq word (codes "demo") then demo_of (reading_of seed) (reading_of side) else None
 
 -- the command of the words `solve PROBLEM`, `locate CONTROL` and `demo SEED SIDE`; other words have no shape

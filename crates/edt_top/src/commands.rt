@@ -51,6 +51,7 @@ fn command_on<'a>(word: &str, name: &'a str) -> Option<Command<'a>>
 }
 
 // The command of a word, on a seed below 2^64 and a side from 1 to 64.
+#[tactic(auto, unfolding(crate::specs::Commands::command_from))]
 fn command_from<'a>(word: &str, seed: &str, side: &str) -> Option<Command<'a>>
     ensures value { option_map command_value result ≡ command_from word.now seed.now side.now }
     ensures sound { IfSome result (λ command. IsSoundCommand (command_value command)) }
