@@ -34,7 +34,7 @@ certificate_faulty passed number lines cause fault =
     let found = faulty (fault_at lines) (length lines) fault.place cause fault.first in
     rw (found, fault.number_is) refl
 
--- another cause than want of memory comes from one
+-- another cause than running out of memory comes from one
 pub no_memory : (cause : BlockCause) (found : ReportCause) → found ≡ cause_of_block cause → found ≢ Memory → cause ≢ block_memory
 no_memory cause found is other same = other (is ∙ ap cause_of_block same)
 

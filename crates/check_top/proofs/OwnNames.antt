@@ -1,5 +1,5 @@
 -- The picks of an event have names.
-use Rattle.std.proofs.Common.{◌≡◌, ℕ, ◌<◌, ◌≤◌, ◌^◌, Bool, true, inl, inr, List, [], ◌∷◌, length, take, drop, get_or, Option, Some, None, IfSome, All, IsTrue, refl, arith}
+use Rattle.std.proofs.Common.{◌≡◌, ℕ, ◌<◌, ◌≤◌, ◌^◌, Bool, true, List, [], ◌∷◌, length, take, drop, get_or, Option, Some, None, IfSome, All, IsTrue, refl, arith}
 use Rattle.std.specs.Prelude.{◌&&◌, nat_le, unwrap_or}
 use Rattle.std.specs.List.{find, flat_map, list_all, range_with_len}
 use Rattle.std.specs.Option.{option_map}
@@ -10,8 +10,7 @@ use Rattle.std.proofs.lemmas.List.Elements.{All-cons, All-head, All-nil, All-tai
 use Rattle.std.proofs.lemmas.List.FromFn.{length-range_with_len}
 use Rattle.text_terms.specs.Names.{is_name, is_name_byte}
 use Rattle.text_terms.specs.Prefixes.{with_those_before, with_those_before_at}
-use Rattle.text_terms.proofs.Cases.{by_bool}
-use Rattle.text_terms.proofs.ListLaws.{All-flat_map}
+use Rattle.text_terms.proofs.ListLaws.{All-flat_map, find-All}
 use Rattle.text_terms.proofs.PrefixLaws.{with_before}
 use Rattle.control_reader.specs.declared.control.Alias.{Alias}
 use Rattle.control_reader.specs.declared.control.Control.{Control}
@@ -45,14 +44,6 @@ longer word name =
 all_pass : {A : Type 0} (test : A → Bool) (xs : List A) → All (λ x. test x ≡ true) xs → list_all test xs ≡ true
 all_pass test [] all = refl
 all_pass test (x ∷ xs) all = rw (All-head (λ y. test y ≡ true) x xs all, all_pass test xs (All-tail (λ y. test y ≡ true) x xs all)) refl
-
--- what holds of each item holds of the one that is found
-found_holds : {A : Type 0} (P : A → Type 0) (test : A → Bool) (xs : List A) → All P xs → IfSome (find test xs) P
-found_holds P test [] all = tt
-found_holds P test (x ∷ xs) all = elim (by_bool (test x)) [
-  | inl here ↦ rw here (All-head P x xs all)
-  | inr other ↦ rw other (found_holds P test xs (All-tail P x xs all))
-]
 
 -- a name that is found, or else another one
 found_name : {A : Type 0} (P : A → Type 0) (name : A → List ℕ) → ((a : A) → P a → IsTrue (is_name 64 (name a))) → (found : Option A) (own : List ℕ)
@@ -96,7 +87,7 @@ module _ (control : Control) (limits : IsControl control) (keys : List GridKey) 
   station_named pick is =
       longer (station_of (values_of control) pick) (
       found_name IsAlias (λ (alias : Alias). alias.alias) (λ alias good. good.alias) (find (is_alias_of pick) control.aliases.items) pick.station
-      (found_holds IsAlias (is_alias_of pick) control.aliases.items limits.aliases) is.station)
+      (find-All IsAlias (is_alias_of pick) control.aliases.items limits.aliases) is.station)
 
   phase_named : (pick : Pick) → IsPick pick → is_name 512 (phase_of (values_of control) pick) ≡ true
   unfolding phase_of
@@ -104,7 +95,7 @@ module _ (control : Control) (limits : IsControl control) (keys : List GridKey) 
       let test : PhaseId → Bool = λ id. bytes_eq id.code pick.phase in
       longer (phase_of (values_of control) pick) (
       found_name IsPhaseId (λ (id : PhaseId). id.standard) (λ id good. good.standard) (find test control.phase_ids.items) pick.phase
-      (found_holds IsPhaseId test control.phase_ids.items limits.phase_ids) is.phase)
+      (find-All IsPhaseId test control.phase_ids.items limits.phase_ids) is.phase)
 
   -- a used pick has names, and so has another one
   abbrev IsUseNamed : UsedPick → Type 0

@@ -110,16 +110,16 @@ drop_more (w ∷ words) more word zero e = cc
 drop_more [] more word (suc k) e = absurd cc
 drop_more (w ∷ words) more word (suc k) e = drop_more words more word k e
 
-pub drop_none : (words : List (List ℕ)) (k : ℕ) → drop k words ≡ [] → drop (suc k) words ≡ []
-drop_none [] zero e = refl
-drop_none (w ∷ words) zero e = absurd cc
-drop_none [] (suc k) e = refl
-drop_none (w ∷ words) (suc k) e = drop_none words k e
+pub drop_still : (words : List (List ℕ)) (k : ℕ) → drop k words ≡ [] → drop (suc k) words ≡ []
+drop_still [] zero e = refl
+drop_still (w ∷ words) zero e = absurd cc
+drop_still [] (suc k) e = refl
+drop_still (w ∷ words) (suc k) e = drop_still words k e
 
 -- a cursor that stands after some words, one step on
 pub cursor_more : (words left more : List (List ℕ)) (k : ℕ) (word : Option (Bor (List ℕ))) → left ≡ drop k words
     → MatchOption word ((left ≡ []) × (more ≡ [])) (λ w. left ≡ w.now ∷ more) → more ≡ drop (k + 1) words
-cursor_more words left more k None at ends = rw add-one (ends.1 ∙ sym (drop_none words k (sym at ∙ ends.0)))
+cursor_more words left more k None at ends = rw add-one (ends.1 ∙ sym (drop_still words k (sym at ∙ ends.0)))
 cursor_more words left more k (Some w) at gives = rw add-one (sym (drop_more words more w.now k (sym at ∙ gives)))
 
 -- the number of the word there, and 0 where there is none

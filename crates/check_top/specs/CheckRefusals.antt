@@ -53,14 +53,14 @@ abbrev pub status_after : Result Bool CheckRefusal → ℕ
 status_after (Ok refused) = done_status refused
 status_after (Err refusal) = refusal_status refusal
 
--- want of memory, failed calls and failed writes aren't told by the files
+-- running out of memory, failed calls and failed writes aren't told by the files
 abbrev pub is_untold_check : CheckRefusal → Bool
 is_untold_check (Input refusal) = is_untold refusal
 is_untold_check (Report fault) = false
 is_untold_check ReportTooLong = false
 is_untold_check Write = true
 
--- the cause is that of some line, and no want of memory
+-- the cause is that of some line, and isn't that memory ran out
 abbrev pub is_report_cause : ReportCause → Bool
 is_report_cause Form = true
 is_report_cause Number = true

@@ -6,7 +6,7 @@ use Rattle.std.proofs.Math.Nat.{mul-le-mul}
 use Rattle.kernel_table.specs.declared.kernels.Shape.TheVariants.{Gauss}
 use Rattle.node_boxes.specs.Grid.{GridSize, IsGrid, node_count}
 use Rattle.control_reader.specs.declared.control.Control.{Control}
-use Rattle.control_reader.specs.declared.draft.Draft.{Draft}
+use Rattle.control_reader.specs.declared.draft.ControlDraft.{ControlDraft}
 use Rattle.control_reader.specs.declared.fault.ControlCause.{ControlCause}
 use Rattle.control_reader.specs.declared.fault.ControlCause.TheVariants.{Memory}
 use Rattle.control_reader.specs.declared.fault.ControlFault.{ControlFault}
@@ -104,7 +104,7 @@ says_lines lines control completes = record {
   passed = completes.passed;
 }
 
-pub says_all : (lines : List ControlLine) (draft : Draft) (control : Control) → Follows lines draft → Completes (said_of draft) control → IsControlOf lines control
+pub says_all : (lines : List ControlLine) (draft : ControlDraft) (control : Control) → Follows lines draft → Completes (said_of draft) control → IsControlOf lines control
 says_all lines draft control follows completes =
     says_lines lines control (subst (λ (said : Said). Completes said control) follows.said completes)
 
@@ -119,17 +119,17 @@ same_missing lines =
       ← any_with sigma_of (codes "LOCGAU") lines,
     ) refl
 
-pub missing_follows : (lines : List ControlLine) (draft : Draft) (found : Option ControlCause) → Follows lines draft → missing_in (said_of draft) ≡ found
+pub missing_follows : (lines : List ControlLine) (draft : ControlDraft) (found : Option ControlCause) → Follows lines draft → missing_in (said_of draft) ≡ found
     → missing_fault lines ≡ found
 missing_follows lines draft found follows is = sym (same_missing lines) ∙ ap missing_in (sym follows.said) ∙ is
 
-pub missing_is : (lines : List ControlLine) (draft : Draft) (fault : ControlFault) → Follows lines draft → missing_in (said_of draft) ≡ Some fault.cause
+pub missing_is : (lines : List ControlLine) (draft : ControlDraft) (fault : ControlFault) → Follows lines draft → missing_in (said_of draft) ≡ Some fault.cause
     → (fault.file ≡ 0) × (fault.line ≡ 0) → IsFaultOf lines fault
 missing_is lines draft fault follows is place =
     fault_of_end lines fault follows.clean (missing_follows lines draft (Some fault.cause) follows is) place.0 place.1
 
 -- the answer, where the draft follows all lines
-pub completed : (main : List ℕ) (included : List (List ℕ)) (draft : Draft) (result : Result Control ControlFault) → Follows (control_lines main included) draft
+pub completed : (main : List ℕ) (included : List (List ℕ)) (draft : ControlDraft) (result : Result Control ControlFault) → Follows (control_lines main included) draft
     → IfOk result (Completes (said_of draft)) → OnOk result (missing_in (said_of draft) ≡ None) → IfOk result (IsReading main included)
 completed main included draft (Ok control) follows completes none = record {
   faultless = faultless (control_lines main included) follows.clean (missing_follows (control_lines main included) draft None follows none);
@@ -137,7 +137,7 @@ completed main included draft (Ok control) follows completes none = record {
 }
 completed main included draft (Err fault) follows completes none = tt
 
-pub missing_named : (main : List ℕ) (included : List (List ℕ)) (draft : Draft) (result : Result Control ControlFault) → Follows (control_lines main included) draft
+pub missing_named : (main : List ℕ) (included : List (List ℕ)) (draft : ControlDraft) (result : Result Control ControlFault) → Follows (control_lines main included) draft
     → IfErr result (λ fault. (fault.file ≡ 0) × (fault.line ≡ 0)) → IfErr result (λ fault. missing_in (said_of draft) ≡ Some fault.cause)
     → IfErr result (λ fault. fault.cause ≢ Memory → IsControlFault main included fault)
 missing_named main included draft (Ok control) follows place missing = tt

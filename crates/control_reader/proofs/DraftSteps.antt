@@ -16,6 +16,7 @@ use Rattle.control_reader.specs.Keywords.{keyword_of, is_not_yet}
 use Rattle.control_reader.specs.ControlLines.{ControlLine, kind_of, has_keyword, is_include, arguments_of, statement_with, statements_with}
 use Rattle.control_reader.specs.Values.{files_of, frame_of, method_of, sigma_of, cells_of, phase_ids_of, exclude_of, delay_of, alias_of, seed_of, count_of, shape_of}
 use Rattle.text_terms.specs.Faults.{first_cause, unless}
+use Rattle.edt_text.specs.declared.limits.TheConstants.{LONGEST_LINE}
 use Rattle.control_reader.specs.WordFaults.{words_fault}
 use Rattle.control_reader.specs.ControlFile.{is_repeated, is_passed, is_passed_kind, statement_fault, kind_fault, fault_after}
 use Rattle.control_reader.specs.Inside.Said.{Said, said_in}
@@ -186,7 +187,7 @@ new_kind (Of statement) said file words good = new_statement said file statement
 -- what lines say with one more that has no fault
 pub said_line : (lines : List ControlLine) (line : ControlLine) → fault_by (said_in lines) line ≡ None
     → said_in (lines ++ line ∷ []) ≡ with_line line (said_in lines)
-said_line lines line good = elim (by_bool (nat_lt 4096 (length line.bytes))) [
+said_line lines line good = elim (by_bool (nat_lt LONGEST_LINE (length line.bytes))) [
   | inl long ↦ let fault : fault_by (said_in lines) line ≡ Some LongLine = rw long refl in absurd cc
   | inr short ↦
       let within : kind_fault_by (kind_of line) (said_in lines) line.file (arguments_of line) ≡ None = rw short at good in
@@ -253,7 +254,7 @@ same_kind_fault lines line (Of statement) is = same_statement_fault lines line s
 
 -- the fault of a line by what the lines before it say
 pub same_fault : (lines : List ControlLine) (line : ControlLine) → fault_by (said_in lines) line ≡ fault_after lines line
-same_fault lines line = elim (by_bool (nat_lt 4096 (length line.bytes))) [
+same_fault lines line = elim (by_bool (nat_lt LONGEST_LINE (length line.bytes))) [
   | inl long ↦ rw long refl
   | inr short ↦ rw short (same_kind_fault lines line (kind_of line) refl)
 ]

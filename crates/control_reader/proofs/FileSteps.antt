@@ -8,14 +8,15 @@ use Rattle.text_terms.specs.Lines.{LineText, lines_of}
 use Rattle.edt_text.specs.declared.cursor.Line.{Line}
 use Rattle.edt_text.specs.declared.cursor.Lines.{Lines}
 use Rattle.edt_text.specs.LineCursor.{line_text, lines_left, lines_passed}
-use Rattle.control_reader.specs.declared.draft.Draft.{Draft}
+use Rattle.control_reader.specs.declared.draft.ControlDraft.{ControlDraft}
 use Rattle.control_reader.specs.declared.fault.ControlFault.{ControlFault}
 use Rattle.control_reader.specs.ControlLines.{ControlLine, file_lines}
 use Rattle.control_reader.specs.ControlFile.{fault_after, IsFaultOf}
 use Rattle.control_reader.specs.Inside.Said.{said_of, control_line}
 use Rattle.control_reader.specs.Inside.Follows.{Follows}
 use Rattle.control_reader.specs.Inside.SaidLimits.{IsWithin}
-use Rattle.control_reader.proofs.ListLaws.{Cut, cut_here, drop_none, few_lines}
+use Rattle.text_terms.proofs.ListLaws.{IsHere, drop_here, drop_none}
+use Rattle.control_reader.proofs.ListLaws.{few_lines}
 use Rattle.control_reader.proofs.FaultSteps.{fault_of_next}
 
 -- the lines of a file from a number on
@@ -36,7 +37,7 @@ given_none file bytes lines left none = record { left = rw (none, left) refl; wi
 -- the next line
 abbrev pub IsNext : ℕ → List ℕ → Lines → Line → Lines → Type 0
 IsNext file bytes old line new =
-    Cut (lines_passed old) (file_lines file bytes) (control_line file line) (drop (lines_passed new) (file_lines file bytes)) × Given file bytes new
+    IsHere (lines_passed old) (file_lines file bytes) (control_line file line) (drop (lines_passed new) (file_lines file bytes)) × Given file bytes new
 
 pub given_next : (file : ℕ) (bytes : List ℕ) (old new : Lines) (line : Line) → Given file bytes old
     → lines_left old ≡ line_text line ∷ lines_left new → line.number ≡ lines_passed old + 1 → lines_passed new ≡ line.number
@@ -47,7 +48,7 @@ given_next file bytes old new line given e number passed =
     let left : drop (lines_passed old) (file_lines file bytes) ≡ control_line file line ∷ numbered file (line.number + 1) (texts (lines_left new)) =
     given.left ∙ ap (λ ls. numbered file (lines_passed old + 1) (texts ls)) e
     ∙ ap (λ n. record { file = file; number = n; bytes = line.bytes.now } ∷ numbered file (n + 1) (texts (lines_left new))) same in
-    let cut = cut_here (lines_passed old) (file_lines file bytes) (control_line file line) (numbered file (line.number + 1) (texts (lines_left new))) left in
+    let cut = drop_here (lines_passed old) (file_lines file bytes) (control_line file line) (numbered file (line.number + 1) (texts (lines_left new))) left in
     let behind : drop (lines_passed new) (file_lines file bytes) ≡ numbered file (line.number + 1) (texts (lines_left new)) = rw more cut.behind in (
       rw behind cut,
       record { left = behind ∙ ap (λ n. numbered file (n + 1) (texts (lines_left new))) (sym passed); within = omega (arith, more, cut.within) },
@@ -74,14 +75,14 @@ few_given file bytes =
     )
 
 -- the draft follows the lines that were given
-pub record TakesFile (file : ℕ) (bytes : List ℕ) (lines : Lines) (start draft : Draft) : Type 0 where
+pub record TakesFile (file : ℕ) (bytes : List ℕ) (lines : Lines) (start draft : ControlDraft) : Type 0 where
   pub given : Given file bytes lines
   pub follows : (before : List ControlLine) → Follows before start → Follows (before ++ take (lines_passed lines) (file_lines file bytes)) draft
   pub limits : IsWithin (said_of draft)
   pub includes : draft.includes ≡ start.includes
   pub room : draft.passed ≤ start.passed + lines_passed lines
 
-pub takes_next : (file : ℕ) (bytes : List ℕ) (old new : Lines) (start draft next : Draft) (line : Line) → TakesFile file bytes old start draft
+pub takes_next : (file : ℕ) (bytes : List ℕ) (old new : Lines) (start draft next : ControlDraft) (line : Line) → TakesFile file bytes old start draft
     → lines_left old ≡ line_text line ∷ lines_left new → line.number ≡ lines_passed old + 1 → lines_passed new ≡ line.number
     → ((before : List ControlLine) → Follows before draft → Follows (before ++ control_line file line ∷ []) next)
     → IsWithin (said_of next) → next.includes ≡ draft.includes → next.passed ≤ draft.passed + 1 → TakesFile file bytes new start next
@@ -99,7 +100,7 @@ takes_next file bytes old new start draft next line takes e number passed follow
     }
 
 -- a line with a fault
-pub takes_fault : (file : ℕ) (bytes : List ℕ) (old new : Lines) (start draft : Draft) (line : Line) (fault : ControlFault) → TakesFile file bytes old start draft
+pub takes_fault : (file : ℕ) (bytes : List ℕ) (old new : Lines) (start draft : ControlDraft) (line : Line) (fault : ControlFault) → TakesFile file bytes old start draft
     → lines_left old ≡ line_text line ∷ lines_left new → line.number ≡ lines_passed old + 1 → lines_passed new ≡ line.number
     → fault.file ≡ file → fault.line ≡ line.number
     → ((before : List ControlLine) → Follows before draft → fault_after before (control_line file line) ≡ Some fault.cause)
@@ -117,7 +118,7 @@ takes_fault file bytes old new start draft line fault takes e number passed of_f
     rw whole found
 
 -- all lines were given
-pub takes_all : (file : ℕ) (bytes : List ℕ) (lines : Lines) (start draft : Draft) → TakesFile file bytes lines start draft → lines_left lines ≡ []
+pub takes_all : (file : ℕ) (bytes : List ℕ) (lines : Lines) (start draft : ControlDraft) → TakesFile file bytes lines start draft → lines_left lines ≡ []
     → (before : List ControlLine) → Follows before start → Follows (before ++ file_lines file bytes) draft
 takes_all file bytes lines start draft takes end before start_follows =
     let all = given_all file bytes lines takes.given end in
@@ -125,6 +126,6 @@ takes_all file bytes lines start draft takes end before start_follows =
     let whole = take_all (lines_passed lines) (file_lines file bytes) most in
     rw whole at takes.follows before start_follows
 
-pub takes_room : (file : ℕ) (bytes : List ℕ) (lines : Lines) (start draft : Draft) → TakesFile file bytes lines start draft → length bytes ≤ 1048576
+pub takes_room : (file : ℕ) (bytes : List ℕ) (lines : Lines) (start draft : ControlDraft) → TakesFile file bytes lines start draft → length bytes ≤ 1048576
     → draft.passed ≤ start.passed + 1048577
 takes_room file bytes lines start draft takes size = omega (arith, takes.room, takes.given.within, few_given file bytes)

@@ -3,7 +3,8 @@ use Rattle.std.proofs.Common.{◌≡◌, ℕ, ◌+◌, ◌<◌, ◌≤◌, true,
 use Rattle.std.specs.Prelude.{nat_lt, ◌&&◌, if◌then◌else◌}
 use Rattle.std.proofs.lemmas.Grind.{common_steps}
 use Rattle.text_terms.proofs.Cases.{by_bool}
-use Rattle.control_reader.specs.declared.draft.Draft.{Draft}
+use Rattle.edt_text.specs.declared.limits.TheConstants.{LONGEST_LINE}
+use Rattle.control_reader.specs.declared.draft.ControlDraft.{ControlDraft}
 use Rattle.control_reader.specs.declared.fault.ControlCause.{ControlCause}
 use Rattle.control_reader.specs.declared.fault.ControlCause.TheVariants.{LongLine}
 use Rattle.control_reader.specs.declared.statement.Statement.{Statement}
@@ -21,7 +22,7 @@ use Rattle.control_reader.proofs.StatementFaults.{fault_nested, includes_after}
 use Rattle.control_reader.proofs.DraftSteps.{said_line, same_fault}
 use Rattle.control_reader.proofs.FaultSteps.{clean_more}
 
-pub follows_line : (before : List ControlLine) (line : ControlLine) (old new : Draft) → Follows before old
+pub follows_line : (before : List ControlLine) (line : ControlLine) (old new : ControlDraft) → Follows before old
     → said_of new ≡ with_line line (said_of old) → fault_by (said_of old) line ≡ None → Follows (before ++ line ∷ []) new
 follows_line before line old new follows value good =
     let none : fault_by (said_in before) line ≡ None = ap (λ said. fault_by said line) (sym follows.said) ∙ good in
@@ -30,7 +31,7 @@ follows_line before line old new follows value good =
       clean = clean_more before line follows.clean (sym (same_fault before line) ∙ none);
     }
 
-pub fault_follows : (before : List ControlLine) (line : ControlLine) (draft : Draft) (cause : ControlCause) → Follows before draft
+pub fault_follows : (before : List ControlLine) (line : ControlLine) (draft : ControlDraft) (cause : ControlCause) → Follows before draft
     → fault_by (said_of draft) line ≡ Some cause → fault_after before line ≡ Some cause
 fault_follows before line draft cause follows is =
     sym (same_fault before line) ∙ ap (λ said. fault_by said line) (sym follows.said) ∙ is
@@ -92,7 +93,7 @@ outer_kind (Of statement) said file words good inside = elim (by_bool (includes_
 ]
 
 pub outer_line : (line : ControlLine) (said : Said) → fault_by said line ≡ None → 0 < line.file → is_include line ≡ false
-outer_line line said good inside = elim (by_bool (nat_lt 4096 (length line.bytes))) [
+outer_line line said good inside = elim (by_bool (nat_lt LONGEST_LINE (length line.bytes))) [
   | inl long ↦ let fault : fault_by said line ≡ Some LongLine = rw long refl in absurd cc
   | inr short ↦
       let within : kind_fault_by (kind_of line) said line.file (arguments_of line) ≡ None = rw short at good in

@@ -20,34 +20,6 @@ pub get_next : {A : Type 0} (front rest : List A) (x : A) → slice_get (front +
 get_next [] rest x = refl
 get_next (y ∷ front) rest x = get_next front rest x
 
--- a list that is cut at an element
-pub record Cut {A : Type 0} (k : ℕ) (xs : List A) (x : A) (rest : List A) : Type 0 where
-  pub within : k < length xs
-  pub whole : xs ≡ take k xs ++ x ∷ rest
-  pub upto : take (suc k) xs ≡ take k xs ++ x ∷ []
-  pub behind : drop (suc k) xs ≡ rest
-
-pub cut_here : {A : Type 0} (k : ℕ) (xs : List A) (x : A) (rest : List A) → drop k xs ≡ x ∷ rest → Cut k xs x rest
-cut_here zero [] x rest e = absurd cc
-cut_here zero (y ∷ ys) x rest e =
-    let same : y ≡ x = cc in
-    record { within = omega arith; whole = e; upto = rw same refl; behind = cc }
-cut_here (suc k) [] x rest e = absurd cc
-cut_here (suc k) (y ∷ ys) x rest e =
-    let more : Cut k ys x rest = cut_here k ys x rest e in
-    record {
-      within = omega (arith, more.within);
-      whole = ap (λ zs. y ∷ zs) more.whole;
-      upto = ap (λ zs. y ∷ zs) more.upto;
-      behind = more.behind;
-    }
-
--- a list that is passed over whole is no longer than what was passed over
-pub drop_none : {A : Type 0} (k : ℕ) (xs : List A) → drop k xs ≡ [] → length xs ≤ k
-drop_none k [] e = omega arith
-drop_none zero (x ∷ xs) e = absurd cc
-drop_none (suc k) (x ∷ xs) e = omega (arith, drop_none k xs e)
-
 -- a file has at most one line more than bytes
 few_last : (part : List ℕ) → length (lines_of_parts (part ∷ [])) ≤ 1
 few_last [] = omega arith

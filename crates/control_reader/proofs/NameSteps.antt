@@ -5,6 +5,7 @@ use Rattle.std.proofs.lemmas.List.{append-nil}
 use Rattle.std.proofs.lemmas.Bool.{false≢true}
 use Rattle.std.proofs.lemmas.Grind.{common_steps}
 use Rattle.text_terms.specs.Words.{words_of}
+use Rattle.edt_text.specs.declared.limits.TheConstants.{LONGEST_LINE}
 use Rattle.control_reader.specs.declared.fault.ControlCause.{ControlCause}
 use Rattle.control_reader.specs.declared.fault.ControlCause.TheVariants.{LongLine, Fields, Limit, Memory}
 use Rattle.control_reader.specs.declared.statement.Statement.TheVariants.{Include}
@@ -37,20 +38,20 @@ pub good_other : (before : ℕ) (line : ControlLine) → is_include line ≡ fal
 unfolding name_fault_by
 good_other before line other = rw other refl
 
-pub name_long : (before : ℕ) (line : ControlLine) → is_include line ≡ true → 4096 < length line.bytes → name_fault_by before line ≡ Some LongLine
+pub name_long : (before : ℕ) (line : ControlLine) → is_include line ≡ true → LONGEST_LINE < length line.bytes → name_fault_by before line ≡ Some LongLine
 unfolding name_fault_by
 name_long before line is long =
-    let over : nat_le (length line.bytes) 4096 ≡ false = grind (arith, common_steps) in
+    let over : nat_le (length line.bytes) LONGEST_LINE ≡ false = grind (arith, common_steps) in
     rw (is, over) refl
 
 -- a line that includes a file and isn't too long, and the words after its keyword
 pub record IsIncludeLine (line : ControlLine) (words : List (List ℕ)) : Type 0 where
   pub is : is_include line ≡ true
-  pub short : length line.bytes ≤ 4096
+  pub short : length line.bytes ≤ LONGEST_LINE
   pub same : words ≡ arguments_of line
 
-within_line : (line : ControlLine) (words : List (List ℕ)) → IsIncludeLine line words → nat_le (length line.bytes) 4096 ≡ true
-within_line line words include = let short : length line.bytes ≤ 4096 = include.short in grind (arith, common_steps)
+within_line : (line : ControlLine) (words : List (List ℕ)) → IsIncludeLine line words → nat_le (length line.bytes) LONGEST_LINE ≡ true
+within_line line words include = let short : length line.bytes ≤ LONGEST_LINE = include.short in grind (arith, common_steps)
 
 pub name_few : (before : ℕ) (line : ControlLine) (words : List (List ℕ)) → IsIncludeLine line words → length words < 1
     → name_fault_by before line ≡ Some Fields

@@ -11,7 +11,7 @@ use Rattle.text_terms.proofs.PrefixLaws.{before_push}
 use Rattle.edt_text.specs.declared.cursor.Line.{Line}
 use Rattle.edt_text.specs.declared.cursor.Lines.{Lines}
 use Rattle.edt_text.specs.LineCursor.{line_text, lines_left, lines_passed}
-use Rattle.control_reader.specs.declared.draft.Draft.{Draft}
+use Rattle.control_reader.specs.declared.draft.ControlDraft.{ControlDraft}
 use Rattle.control_reader.specs.declared.fault.ControlFault.{ControlFault}
 use Rattle.control_reader.specs.ControlLines.{ControlLine, file_lines, is_include, included_lines, with_file, control_lines}
 use Rattle.control_reader.specs.ControlFile.{fault_after, IsFaultOf}
@@ -59,7 +59,7 @@ front_first included front (line ∷ rest) =
     )
 
 -- the draft follows all lines up to the one that was given last
-pub record Reads (main : List ℕ) (included : List (List ℕ)) (lines : Lines) (draft : Draft) : Type 0 where
+pub record Reads (main : List ℕ) (included : List (List ℕ)) (lines : Lines) (draft : ControlDraft) : Type 0 where
   pub given : Given 0 main lines
   pub follows : Follows (lines_to main included (lines_passed lines)) draft
   pub limits : IsWithin (said_of draft)
@@ -67,7 +67,7 @@ pub record Reads (main : List ℕ) (included : List (List ℕ)) (lines : Lines) 
   pub room : draft.passed ≤ lines_passed lines + 1048577 * draft.includes
 
 -- few lines are counted
-pub reads_room : (main : List ℕ) (included : List (List ℕ)) (lines : Lines) (draft : Draft) → Reads main included lines draft → length main ≤ 1048576
+pub reads_room : (main : List ℕ) (included : List (List ℕ)) (lines : Lines) (draft : ControlDraft) → Reads main included lines draft → length main ≤ 1048576
     → draft.passed ≤ 17825809
 reads_room main included lines draft reads size =
     omega (arith, reads.room, reads.limits.includes, reads.given.within, few_given 0 main)
@@ -114,7 +114,7 @@ more_files true old new is less = refl
 more_files false old new is less = absurd (omega (arith, is, less))
 
 -- one more line that includes no file
-pub reads_line : (main : List ℕ) (included : List (List ℕ)) (old new : Lines) (draft next : Draft) (line : Line) → Reads main included old draft
+pub reads_line : (main : List ℕ) (included : List (List ℕ)) (old new : Lines) (draft next : ControlDraft) (line : Line) → Reads main included old draft
     → IsPlace main included old new line
     → ((before : List ControlLine) → Follows before draft → Follows (before ++ control_line 0 line ∷ []) next)
     → IsWithin (said_of next) → next.includes ≡ (if is_include (control_line 0 line) then draft.includes + 1 else draft.includes)
@@ -135,12 +135,12 @@ reads_line main included old new draft next line reads place follows limits incl
     }
 
 -- the file of the next line that includes one
-pub record IsNextFile (main : List ℕ) (included : List (List ℕ)) (old new : Lines) (line : Line) (draft mid : Draft) (bytes : List ℕ) : Type 0 where
+pub record IsNextFile (main : List ℕ) (included : List (List ℕ)) (old new : Lines) (line : Line) (draft mid : ControlDraft) (bytes : List ℕ) : Type 0 where
   pub includes : mid.includes ≡ draft.includes + 1
   pub places : includes_to main (lines_passed new) ≡ draft.includes + 1
   pub lines : with_file included (includes_to main (lines_passed old)) (control_line 0 line) ≡ control_line 0 line ∷ file_lines mid.includes bytes
 
-pub next_file : (main : List ℕ) (included : List (List ℕ)) (old new : Lines) (draft mid : Draft) (line : Line) (bytes : List ℕ) → Reads main included old draft
+pub next_file : (main : List ℕ) (included : List (List ℕ)) (old new : Lines) (draft mid : ControlDraft) (line : Line) (bytes : List ℕ) → Reads main included old draft
     → IsPlace main included old new line
     → mid.includes ≡ (if is_include (control_line 0 line) then draft.includes + 1 else draft.includes) → draft.includes < mid.includes
     → slice_get included draft.includes ≡ Some bytes → IsNextFile main included old new line draft mid bytes
@@ -160,7 +160,7 @@ next_file main included old new draft mid line bytes reads place includes less f
     }
 
 -- one more line with its file
-pub reads_file : (main : List ℕ) (included : List (List ℕ)) (old new : Lines) (draft mid next : Draft) (line : Line) (bytes : List ℕ) → Reads main included old draft
+pub reads_file : (main : List ℕ) (included : List (List ℕ)) (old new : Lines) (draft mid next : ControlDraft) (line : Line) (bytes : List ℕ) → Reads main included old draft
     → IsPlace main included old new line → IsNextFile main included old new line draft mid bytes
     → ((before : List ControlLine) → Follows before draft → Follows (before ++ control_line 0 line ∷ []) mid)
     → ((before : List ControlLine) → Follows before mid → Follows (before ++ file_lines mid.includes bytes) next)
@@ -181,7 +181,7 @@ reads_file main included old new draft mid next line bytes reads place file foll
     }
 
 -- a fault of a line of the main file
-pub reads_fault : (main : List ℕ) (included : List (List ℕ)) (old new : Lines) (draft : Draft) (line : Line) (fault : ControlFault) → Reads main included old draft
+pub reads_fault : (main : List ℕ) (included : List (List ℕ)) (old new : Lines) (draft : ControlDraft) (line : Line) (fault : ControlFault) → Reads main included old draft
     → IsPlace main included old new line → fault.file ≡ 0 → fault.line ≡ line.number
     → ((before : List ControlLine) → Follows before draft → fault_after before (control_line 0 line) ≡ Some fault.cause)
     → IsFaultOf (control_lines main included) fault
@@ -195,7 +195,7 @@ reads_fault main included old new draft line fault reads place of_file of_line i
     (fault_of_next front (behind ++ place.behind) (control_line 0 line) fault reads.follows.clean (is front reads.follows) of_file of_line)
 
 -- a fault of a line of the included file
-pub reads_file_fault : (main : List ℕ) (included : List (List ℕ)) (old new : Lines) (draft mid : Draft) (line : Line) (bytes : List ℕ) (fault : ControlFault)
+pub reads_file_fault : (main : List ℕ) (included : List (List ℕ)) (old new : Lines) (draft mid : ControlDraft) (line : Line) (bytes : List ℕ) (fault : ControlFault)
     → Reads main included old draft → IsPlace main included old new line → IsNextFile main included old new line draft mid bytes
     → ((before : List ControlLine) → Follows before draft → Follows (before ++ control_line 0 line ∷ []) mid)
     → ((before rest : List ControlLine) → Follows before mid → IsFaultOf (before ++ file_lines mid.includes bytes ++ rest) fault)
@@ -211,7 +211,7 @@ reads_file_fault main included old new draft mid line bytes fault reads place fi
     rw whole found
 
 -- no line is left
-pub reads_all : (main : List ℕ) (included : List (List ℕ)) (lines : Lines) (draft : Draft) → Reads main included lines draft → lines_left lines ≡ []
+pub reads_all : (main : List ℕ) (included : List (List ℕ)) (lines : Lines) (draft : ControlDraft) → Reads main included lines draft → lines_left lines ≡ []
     → Follows (control_lines main included) draft
 unfolding control_lines
 reads_all main included lines draft reads end =
@@ -220,7 +220,7 @@ reads_all main included lines draft reads end =
     rw whole at reads.follows
 
 -- the file of a line is among the included ones
-pub file_within : (main : List ℕ) (included : List (List ℕ)) (old new : Lines) (draft : Draft) (line : Line) (files : ℕ) → Reads main included old draft
+pub file_within : (main : List ℕ) (included : List (List ℕ)) (old new : Lines) (draft : ControlDraft) (line : Line) (files : ℕ) → Reads main included old draft
     → IsPlace main included old new line
     → files ≡ (if is_include (control_line 0 line) then draft.includes + 1 else draft.includes) → draft.includes < files
     → draft.includes < include_count main
@@ -231,7 +231,7 @@ file_within main included old new draft line files reads place includes less =
     omega (arith, reads.includes, places, count_front is_include (lines_passed new) (file_lines 0 main))
 
 -- no line was given
-pub reads_none : (main : List ℕ) (included : List (List ℕ)) (lines : Lines) (draft : Draft) → lines_left lines ≡ lines_of main → lines_passed lines ≡ 0
+pub reads_none : (main : List ℕ) (included : List (List ℕ)) (lines : Lines) (draft : ControlDraft) → lines_left lines ≡ lines_of main → lines_passed lines ≡ 0
     → Follows [] draft → IsWithin (said_of draft) → draft.includes + draft.passed ≡ 0 → Reads main included lines draft
 reads_none main included lines draft left none follows limits empty = record {
   given = given_none 0 main lines left none;

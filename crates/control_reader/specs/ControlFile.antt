@@ -20,6 +20,7 @@ use Rattle.control_reader.specs.Keywords.{keyword_of, is_once, is_not_yet}
 use Rattle.control_reader.specs.ControlLines.{ControlLine, control_lines, kind_of, has_keyword, is_include, arguments_of, statement_with, statements_with}
 use Rattle.control_reader.specs.Values.{files_of, frame_of, method_of, sigma_of, cells_of, phase_ids_of, exclude_of, delay_of, alias_of, seed_of, count_of, shape_of}
 use Rattle.text_terms.specs.Faults.{first_cause, unless}
+use Rattle.edt_text.specs.declared.limits.TheConstants.{LONGEST_LINE}
 use Rattle.control_reader.specs.WordFaults.{words_fault}
 
 -- the line includes a file and stands in an included file
@@ -55,7 +56,7 @@ kind_fault (Of statement) before line = statement_fault before line statement
 -- the fault of a line, given the lines before it in reading order: of those, only which keywords stand there and how many files they
 -- include matters
 abbrev pub fault_after : List ControlLine → ControlLine → Option ControlCause
-fault_after before line = if nat_lt 4096 (length line.bytes) then Some LongLine else kind_fault (kind_of line) before line
+fault_after before line = if nat_lt LONGEST_LINE (length line.bytes) then Some LongLine else kind_fault (kind_of line) before line
 
 -- a statement that every control file needs is missing
 abbrev pub missing : Keyword → List ℕ → List ControlLine → Option ControlCause

@@ -9,6 +9,7 @@ use Rattle.control_reader.specs.declared.statement.Statement.TheVariants.{Includ
 use Rattle.control_reader.specs.ControlLines.{ControlLine, file_lines, is_include, arguments_of, statements_with}
 use Rattle.control_reader.specs.Values.{include_of}
 use Rattle.text_terms.specs.Faults.{first_cause, unless}
+use Rattle.edt_text.specs.declared.limits.TheConstants.{LONGEST_LINE}
 use Rattle.control_reader.specs.WordFaults.{words_fault}
 use Rattle.control_reader.specs.ControlFile.{is_one_file_too_many}
 
@@ -16,7 +17,7 @@ use Rattle.control_reader.specs.ControlFile.{is_one_file_too_many}
 unfoldable pub include_line_fault : List ControlLine → ControlLine → Option ControlCause
 include_line_fault before line =
     first_cause (
-    unless (nat_le (length line.bytes) 4096) LongLine
+    unless (nat_le (length line.bytes) LONGEST_LINE) LongLine
     ∷ words_fault Include (arguments_of line)
     ∷ unless (not (is_one_file_too_many before line)) Limit
     ∷ [])

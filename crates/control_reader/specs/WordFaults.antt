@@ -10,6 +10,7 @@ use Rattle.control_reader.specs.declared.fault.ControlCause.TheVariants.{Fields,
 use Rattle.control_reader.specs.declared.statement.Statement.{Statement}
 use Rattle.control_reader.specs.declared.statement.Statement.TheVariants.{Locfiles, Locgrid, Locmeth, Locgau, Locsearch, Locphaseid, Locexclude, Locdelay, Localias, Control, Include, Edtnear, Edtbudget, Edtkernel, Edtlanes, Locgau2}
 use Rattle.text_terms.specs.Words.{word_at}
+use Rattle.node_boxes.specs.declared.limits.TheConstants.{FARTHEST_ORIGIN, MOST_NODES, MOST_ON_AXIS, WIDEST_SPACING}
 use Rattle.control_reader.specs.Words.{count_at}
 use Rattle.control_reader.specs.Values.{has_word}
 use Rattle.control_reader.specs.Keywords.{least_of}
@@ -67,15 +68,15 @@ files_fault words =
 
 -- LOCGRID: 1 to 4096 nodes on an axis
 abbrev pub axis_fault : List ℕ → Option ControlCause
-axis_fault word = whole_fault (from_to (pos 1) (pos 4096)) word
+axis_fault word = whole_fault (from_to (pos 1) (pos MOST_ON_AXIS)) word
 
 -- an origin of at most 10^10 mm in size
 abbrev pub origin_fault : List ℕ → Option ControlCause
-origin_fault word = decimal_fault (in_size (10 ^ 10)) word
+origin_fault word = decimal_fault (in_size FARTHEST_ORIGIN) word
 
 -- a spacing of 1 to 10^9 mm
 abbrev pub spacing_fault : List ℕ → Option ControlCause
-spacing_fault word = decimal_fault (from_to (pos 1) (pos (10 ^ 9))) word
+spacing_fault word = decimal_fault (from_to (pos 1) (pos WIDEST_SPACING)) word
 
 -- three counts, together at most 2,000,000 nodes, three origins and three spacings
 unfoldable pub frame_fault : List (List ℕ) → Option ControlCause
@@ -84,7 +85,7 @@ frame_fault words =
     axis_fault (word_at 0 words)
     ∷ axis_fault (word_at 1 words)
     ∷ axis_fault (word_at 2 words)
-    ∷ unless (nat_le (count_at 0 words * count_at 1 words * count_at 2 words) 2000000) Limit
+    ∷ unless (nat_le (count_at 0 words * count_at 1 words * count_at 2 words) MOST_NODES) Limit
     ∷ origin_fault (word_at 3 words)
     ∷ origin_fault (word_at 4 words)
     ∷ origin_fault (word_at 5 words)

@@ -18,7 +18,7 @@ use std::alloc::Global;
 /// What the lines so far say: the values of the statements that may stand once, the entries of all others in order, how many files
 /// were included, and how many lines have a keyword that isn't read.
 #[derive(Drop)]
-pub(crate) struct Draft {
+pub(crate) struct ControlDraft {
     pub(crate) files: Option<Files>,
     pub(crate) frame: Option<Frame>,
     pub(crate) method: Option<Method>,
@@ -37,14 +37,14 @@ pub(crate) struct Draft {
     pub(crate) passed: u32,
 }
 
-impl Draft {
+impl ControlDraft {
     /// The draft of no lines.
-    pub(crate) fn new(alloc: Global) -> Draft
+    pub(crate) fn new(alloc: Global) -> ControlDraft
         ensures follows { Follows [] result }
         ensures within { IsWithin (said_of result) }
         ensures none { result.includes + result.passed ≡ 0 }
     {
-        Draft {
+        ControlDraft {
             files: None,
             frame: None,
             method: None,

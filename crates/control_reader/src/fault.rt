@@ -59,7 +59,7 @@ pub enum ControlCause {
     Memory,
 }
 
-/// A fault of a control file: that of its first faulty line in reading order, or a missing statement, or want of memory.
+/// A fault of a control file: that of its first faulty line in reading order, or a missing statement, or running out of memory.
 #[derive(Clone, Copy, Debug, PartialEq, Eq, Error)]
 #[error("file {file}, line {line}: {cause}")]
 pub struct ControlFault {

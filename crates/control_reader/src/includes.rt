@@ -5,9 +5,9 @@ ghost use Rattle.control_reader.specs.Inside.IncludeNames.{names_in, name_fault_
 
 use crate::fault::ControlCause;
 use crate::statement::{Statement, split_line};
-use crate::taking::{LONGEST_LINE, MOST_FILES, push};
+use crate::taking::{MOST_FILES, push};
 use crate::words::read_include;
-use edt_text::{Name, PlacedWords};
+use edt_text::{LONGEST_LINE, Name, PlacedWords};
 use std::alloc::Global;
 
 /// Puts the name of the file that a line of the main file includes after the others, or answers the first fault in it. No other line is

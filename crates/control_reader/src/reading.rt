@@ -10,7 +10,7 @@ ghost use Rattle.control_reader.specs.Includes.{AreIncludes, IsIncludeFault, inc
 ghost use Rattle.control_reader.specs.Limits.{IsControl};
 
 use crate::control::Control;
-use crate::draft::Draft;
+use crate::draft::ControlDraft;
 use crate::fault::{ControlCause, ControlFault};
 use crate::includes::take_name;
 use edt_text::{Lines, Name};
@@ -19,7 +19,7 @@ use std::alloc::Global;
 /// The names of the files that a main control file of at most 1,048,576 bytes includes, in the order of its `INCLUDE` lines.
 ///
 /// No other line is looked at. The first faulty `INCLUDE` line decides, with file 0, and in it the first of `LongLine`, `Fields`, `Name`
-/// and `Limit`, which the seventeenth such line has. `Memory` comes for want of memory alone.
+/// and `Limit`, which the seventeenth such line has. `Memory` comes when out of memory, and for nothing else.
 pub fn include_names(alloc: Global, main: &[u8]) -> Result<Vec<Name>, ControlFault>
     requires { length main.now ≤ 1048576 }
     ensures value { IfOk result (λ names. AreIncludes main.now names.items) }
@@ -49,7 +49,7 @@ pub fn include_names(alloc: Global, main: &[u8]) -> Result<Vec<Name>, ControlFau
 ///
 /// The statements are the lines of the main file with the lines of each included file in place of its `INCLUDE` line. The first faulty
 /// line in this order decides, and in it the first cause, as `ControlCause` says. `Missing` comes after all lines, with file 0 and
-/// line 0, in the order of `Keyword`. `Memory` comes for want of memory alone.
+/// line 0, in the order of `Keyword`. `Memory` comes when out of memory, and for nothing else.
 pub fn read_control(
     alloc: Global,
     main: &[u8],
@@ -67,7 +67,7 @@ pub fn read_control(
 }
 
 // What all lines say, those of each included file after its line, or their first fault.
-fn read_lines(alloc: Global, main: &[u8], included: &[Vec<u8>]) -> Result<Draft, ControlFault>
+fn read_lines(alloc: Global, main: &[u8], included: &[Vec<u8>]) -> Result<ControlDraft, ControlFault>
     requires main { length main.now ≤ 1048576 }
     requires files { length included.now ≡ include_count main.now }
     requires sizes { All (λ file. vec_len file ≤ 1048576) included.now }
@@ -75,7 +75,7 @@ fn read_lines(alloc: Global, main: &[u8], included: &[Vec<u8>]) -> Result<Draft,
     ensures limits { IfOk result (λ draft. IsWithin (said_of draft)) }
     ensures fault { IfErr result (λ fault. fault.cause ≢ ControlCause.Memory → IsControlFault main.now (map (λ file. file.items) included.now) fault) }
 {
-    let mut draft = Draft::new(alloc);
+    let mut draft = ControlDraft::new(alloc);
     let mut lines = Lines::new(main);
     while let Some(line) = lines.next() {
         let before = draft.includes;

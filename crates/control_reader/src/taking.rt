@@ -9,7 +9,7 @@ ghost use Rattle.control_reader.specs.Inside.NextFault.{was_said, statement_faul
 ghost use Rattle.control_reader.specs.Inside.SaidLimits.{IsWithin};
 ghost use Rattle.control_reader.specs.Inside.ReadValues.{Puts, Pushes};
 
-use crate::draft::Draft;
+use crate::draft::ControlDraft;
 use crate::fault::ControlCause;
 use crate::statement::{LineKind, Statement, split_line};
 use crate::words::{
@@ -17,15 +17,13 @@ use crate::words::{
     read_include, read_lanes, read_margin, read_method, read_phase_ids, read_seed, read_shape,
     read_sigma,
 };
-use edt_text::PlacedWords;
+use edt_text::{LONGEST_LINE, PlacedWords};
 use std::alloc::Global;
 
-// The limits of this project: bytes of a line, and included files.
-pub(crate) const LONGEST_LINE: usize = 4096;
-
+// The most included files; this project's own limit.
 pub(crate) const MOST_FILES: u32 = 16;
 
-impl Draft {
+impl ControlDraft {
     /// Takes the bytes of a line, or answers the first fault in it.
     #[tactic(auto, unfolding(crate::specs::ControlLines::kind_of, crate::specs::ControlLines::arguments_of))]
     pub(crate) fn take_bytes(

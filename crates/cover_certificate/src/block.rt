@@ -110,7 +110,7 @@ pub enum BlockCause {
     Memory,
 }
 
-/// The first faulty line of a certificate and its first cause, or want of memory.
+/// The first faulty line of a certificate and its first cause, or running out of memory.
 #[derive(Clone, Copy, Debug, PartialEq, Eq, Error)]
 #[error("line {line}: {cause}")]
 pub struct BlockFault {

@@ -23,7 +23,7 @@ use std::alloc::Global;
 /// Reads a block from its first line, which is the next one, to its `END`.
 ///
 /// The lines that were passed are then exactly those of the block that is answered, whatever follows
-/// them. Else the fault names the first faulty line and its first cause, or want of memory; nothing is
+/// them. Else the fault names the first faulty line and its first cause, or running out of memory; nothing is
 /// said then of the place in `lines`. The format is this project's own.
 pub fn read_block(alloc: Global, lines: &mut Lines) -> Result<Block, BlockFault>
     ensures value { IfOk result (λ block.
@@ -173,7 +173,7 @@ fn read_boxes(alloc: Global, lines: &mut Lines, count: usize) -> Result<Vec<BoxB
     Ok(boxes)
 }
 
-// Want of memory, at the last line that was read.
+// Running out of memory, at the last line that was read.
 fn out_of_memory(lines: &Lines) -> BlockFault
     ensures { result.cause ≡ BlockCause.Memory }
 {

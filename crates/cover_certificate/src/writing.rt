@@ -16,7 +16,7 @@ use edt_text::push_number;
 use node_boxes::BoxBound;
 use std::alloc::AllocError;
 
-/// Appends the text of a block to `out`. For want of memory `out` stays unchanged.
+/// Appends the text of a block to `out`. When out of memory `out` stays unchanged.
 ///
 /// Numbers are shortest decimals, words are parted by one blank, and each line ends with one line
 /// feed. The text of a valid block is read again by `read_block`. The format is this project's own.
@@ -38,7 +38,7 @@ pub fn reserve_block(out: &mut Vec<u8>, before: usize, block: &BlockView) -> Res
 }
 
 /// Appends the text of a block whose lists are borrowed, as `write_block` does, and makes no room
-/// before: `reserve_block` does. For want of memory `out` stays unchanged.
+/// before: `reserve_block` does. When out of memory `out` stays unchanged.
 pub fn write_view(out: &mut Vec<u8>, block: &BlockView) -> Result<(), AllocError>
     ensures ok { OnOk result (out.new.items ≡ out.old.items ++ block_text (view_value block.now)) }
     ensures err { OnErr result (out.new.items ≡ out.old.items) }

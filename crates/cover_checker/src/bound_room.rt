@@ -30,7 +30,7 @@ impl Model for BoundRoom {
 }
 
 impl BoundRoom {
-    /// Room for any valid problem. Want of memory is the only refusal.
+    /// Room for any valid problem. Running out of memory is the only refusal.
     pub(crate) fn new(alloc: Global) -> Result<BoundRoom, AllocError> {
         Ok(BoundRoom {
             spans: vec![in alloc; (0, 0); MOST_PICKS]?,

@@ -25,7 +25,7 @@ impl Model for Marks {
 }
 
 impl Marks {
-    /// Marks of the nodes of this grid. Want of memory is the only refusal.
+    /// Marks of the nodes of this grid. Running out of memory is the only refusal.
     pub fn new(alloc: Global, grid: &Grid) -> Result<Marks, AllocError>
         ensures { IfOk result (λ marks. marks ≡ node_count grid.now) }
     {

@@ -10,7 +10,7 @@ use std::io::{ErrorKind, Read};
 /// The files of the system, each under its path.
 ///
 /// Only a file that does not exist is absent. Whatever else the system may answer, as for a folder in
-/// place of a file, is `Failed`, but for want of memory. Its counts begin at 0 and stay at 2^64 - 1
+/// place of a file, is `Failed`, but when out of memory. Its counts begin at 0 and stay at 2^64 - 1
 /// once they stand there. It tells nothing of what the files hold.
 #[derive(Drop)]
 pub struct DirShelf<R: Files + Drop> {

@@ -115,7 +115,7 @@ fn first_named(files: &[(Name, Vec<u8>)], name: &str) -> Option<usize>
 }
 
 // The place of the file of this name.
-fn place(files: &[(Name, Vec<u8>)], name: &str) -> Option<usize>
+fn file_place(files: &[(Name, Vec<u8>)], name: &str) -> Option<usize>
     ensures { MatchOption result (files_of (told_entries files.now) name.now ≡ None)
         (λ place. files_of (told_entries files.now) name.now ≡ Some (unread_of files.now (Some place) 0)) }
 {
@@ -174,7 +174,7 @@ impl Shelf for MemoryShelf {
             self.faults = count_up(self.faults);
             return Err(HasFault::Failed);
         }
-        if place(&self.files, name).is_some() {
+        if file_place(&self.files, name).is_some() {
             return Ok(true);
         }
         self.lacks = count_up(self.lacks);
@@ -208,7 +208,7 @@ impl Shelf for MemoryShelf {
             self.faults = count_up(self.faults);
             return Err(OpenFault::Failed);
         }
-        let Some(opened) = place(&self.files, name) else {
+        let Some(opened) = file_place(&self.files, name) else {
             self.misses = count_up(self.misses);
             return Err(OpenFault::Absent);
         };

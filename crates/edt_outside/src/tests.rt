@@ -1,4 +1,4 @@
-//! What no clause says: worked reads and writes, each refusal, and that none answers want of memory.
+//! What no clause says: worked reads and writes, each refusal, and that none answers that memory ran out.
 ghost use Rattle.std.specs.Prelude.{◌≤◌, None};
 
 use super::*;

@@ -42,7 +42,7 @@ pub fn draw(state: &mut u64) -> u32
 ///
 /// Draws of the generator place 12 stations at the surface and a source, and add a noise of 0 to
 /// `1000 * (side - 1)` microseconds to each pick. A wave takes 170,000 microseconds from a node to
-/// the next. Each pick has the weight 1000 and the variance 20,000,000,000. Want of memory is the
+/// the next. Each pick has the weight 1000 and the variance 20,000,000,000. Running out of memory is the
 /// only refusal.
 pub fn demo_problem(alloc: Global, seed: u64, side: u32) -> Result<Demo, AllocError>
     requires some { 1 ≤ side }

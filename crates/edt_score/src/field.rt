@@ -37,7 +37,7 @@ impl Model for Field {
 
 impl Field {
     /// A field with this grid, these roots of an octree over it, as `node_boxes::roots` gives them,
-    /// and no rows. Want of memory is the only refusal.
+    /// and no rows. Running out of memory is the only refusal.
     pub fn new(alloc: Global, grid: Grid, roots: Vec<NodeBox>) -> Result<Field, AllocError>
         requires { AreRoots grid roots.items }
         ensures { IfOk result (λ field.
@@ -49,7 +49,7 @@ impl Field {
         })
     }
 
-    /// Adds a row and answers its number, from 0. Want of memory is the only refusal, and after it the
+    /// Adds a row and answers its number, from 0. Running out of memory is the only refusal, and after it the
     /// field is unchanged.
     pub fn push_row(&mut self, times: Vec<u32>) -> Result<u32, AllocError>
         requires row { IsRow self.old.grid times.items }

@@ -50,7 +50,7 @@ impl Model for KeptPairs {
 }
 
 impl KeptPairs {
-    /// Room for pairs, of which none is kept. Want of memory is the only refusal.
+    /// Room for pairs, of which none is kept. Running out of memory is the only refusal.
     pub fn new(alloc: Global) -> Result<KeptPairs, AllocError>
         ensures { IfOk result (λ kept. kept ≡ []) }
     {

@@ -51,7 +51,7 @@ pub struct Scorer<'a, F> {
 impl<'a, F: Fn(u64, u64) -> u64> Scorer<'a, F> {
     ghost use Rattle.edt_score.specs.Scorer.{IsSameScorer, area_bound, falloff_of, field_of, node_score, problem_of};
 
-    /// A scorer of this field, this problem and this kernel. Want of memory is the only refusal.
+    /// A scorer of this field, this problem and this kernel. Running out of memory is the only refusal.
     pub fn new(
         alloc: Global,
         field: &'a Field,

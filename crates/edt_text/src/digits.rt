@@ -7,7 +7,7 @@ ghost use Rattle.edt_text.specs.Inside.Digits as digits;
 use itoa::Buffer;
 use std::alloc::AllocError;
 
-/// Appends the shortest decimal of `value` to `out`. For want of memory `out` stays unchanged.
+/// Appends the shortest decimal of `value` to `out`. When out of memory `out` stays unchanged.
 pub fn push_number(out: &mut Vec<u8>, value: u64) -> Result<(), AllocError>
     ensures ok { OnOk result (out.new.items ≡ out.old.items ++ decimal value) }
     ensures err { OnErr result (out.new.items ≡ out.old.items) }
@@ -16,7 +16,7 @@ pub fn push_number(out: &mut Vec<u8>, value: u64) -> Result<(), AllocError>
     out.extend_from_slice(buffer.format(value).as_bytes())
 }
 
-/// Appends the shortest decimal of `value` to `out`, with `-` before one below 0. For want of memory `out` stays unchanged.
+/// Appends the shortest decimal of `value` to `out`, with `-` before one below 0. When out of memory `out` stays unchanged.
 pub fn push_signed(out: &mut Vec<u8>, value: i64) -> Result<(), AllocError>
     ensures ok { OnOk result (out.new.items ≡ out.old.items ++ signed_decimal value) }
     ensures err { OnErr result (out.new.items ≡ out.old.items) }

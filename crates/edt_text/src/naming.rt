@@ -45,7 +45,7 @@ impl Model for Name {
 
 impl Name {
     /// The name of these bytes. Refuses no bytes with `Empty`, then more than 512 with `Long`, then with `BadByte` the first byte
-    /// outside 33 to 126; and with `Memory` for want of memory.
+    /// outside 33 to 126; and with `Memory` when out of memory.
     pub fn new(alloc: Global, bytes: &[u8]) -> Result<Name, NameFault>
         ensures name { IfOk result (λ name. name ≡ bytes.now) }
         ensures form { IfOk result (λ _. IsTrue (is_name 512 bytes.now)) }
@@ -66,7 +66,7 @@ impl Name {
         Name::of_valid(alloc, bytes).map_err(|_| NameFault::Memory)
     }
 
-    /// The name of bytes that are one, which is refused for want of memory alone.
+    /// The name of bytes that are one, which is refused when out of memory, and for nothing else.
     pub fn of_valid(alloc: Global, bytes: &[u8]) -> Result<Name, AllocError>
         requires form { IsTrue (is_name 512 bytes.now) }
         ensures name { IfOk result (λ name. name ≡ bytes.now) }

@@ -48,19 +48,19 @@ abbrev pub status_after : {T : Type 0} → Result T RunRefusal → ℕ
 status_after (Ok _) = 0
 status_after (Err refusal) = run_status refusal
 
--- want of memory, failed calls and failed writes aren't told by the files
+-- running out of memory, failed calls and failed writes aren't told by the files
 abbrev pub is_untold_run : RunRefusal → Bool
 is_untold_run (Problem fault) = false
 is_untold_run ProblemTooLong = false
 is_untold_run (Input refusal) = is_untold refusal
 is_untold_run Write = true
 
--- a run that solves the file of a name is refused for want of memory, or with this name
+-- a run that solves the file of a name is refused when out of memory, or with this name
 abbrev pub IsOfFile : List ℕ → Refusal → Type 0
 IsOfFile name refusal = (refusal ≡ Memory) ⊎ ((refusal ≡ Read name) ⊎ (refusal ≡ Absent name))
 
 -- the refusals that a command can have: those of a problem file with its own name, or those of an input, whose causes files have and whose
--- names are names; and want of memory or a failed write, where no file is read
+-- names are names; and running out of memory or a failed write, where no file is read
 abbrev pub CanRefuse : RunCommand → RunRefusal → Type 0
 CanRefuse (Solve name) (Problem fault) = 1 ≤ fault.word
 CanRefuse (Solve name) ProblemTooLong = ⊤

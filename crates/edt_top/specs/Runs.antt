@@ -20,7 +20,7 @@ use Rattle.edt_top.specs.RunRefusals.{CanRefuse, program, run_line, run_status}
 abbrev pub joined : List (List ℕ) → List ℕ
 joined texts = flat_map (λ (text : List ℕ). text) texts
 
--- what was written, of the parts that a text can have: all of them; nothing, or some first ones, but not all, for want of memory; or a
+-- what was written, of the parts that a text can have: all of them; nothing, or some first ones, but not all, when out of memory; or a
 -- proper front of the text, where a write failed
 pub record IsWritten (IsText : List (List ℕ) → Type 0) (status : ℕ) (Wrote : List ℕ → Type 0) : Type 0 where
   pub whole : status ≡ 0 → (parts : List (List ℕ)) × IsText parts × Wrote (joined parts)
@@ -57,7 +57,7 @@ HasShortestCovers files (Solve name) = ⊤
 HasShortestCovers files (Locate name) = IfOk (input_of files name) AreCoversShortest
 HasShortestCovers files (Demo seed side) = HasShortestDemo seed side
 
--- on every shelf: a run that locates writes the parts of such a text, one of a seed writes its text, and want of memory leaves nothing of a
+-- on every shelf: a run that locates writes the parts of such a text, one of a seed writes its text, and running out of memory leaves nothing of a
 -- run that solves
 abbrev pub WritesParts : RunCommand → ℕ → (List ℕ → Type 0) → Type 0
 WritesParts (Solve name) status Wrote = status ≡ 6 → Wrote []

@@ -66,7 +66,7 @@ passed_on None first answer refusal Answers says gives refused = tt
 passed_on (Some files) first (Ok made) refusal Answers says gives refused = absurd gives
 passed_on (Some files) first (Err other) refusal Answers says gives refused = says files other (rw gives refused)
 
--- want of memory is a refusal by any files
+-- running out of memory is a refusal by any files
 pub memory_refuses : (told : Option Files) (first : Files → Option AssembleFault) → IfSome told (λ files. IsRefusal (first files) Memory)
 memory_refuses None first = tt
 memory_refuses (Some files) first = tt

@@ -49,7 +49,7 @@ abbrev pub assemble_absent : {T : Type 0} → Result T AssembleFault → Bool
 assemble_absent (Ok _) = false
 assemble_absent (Err fault) = is_absent_fault fault
 
--- what is said of faults, but of failed calls and want of memory, which the files don't tell
+-- what is said of faults, but of failed calls and running out of memory, which the files don't tell
 abbrev pub IfToldFault : (AssembleFault → Type 0) → AssembleFault → Type 0
 IfToldFault holds (Absent name) = holds (Absent name)
 IfToldFault holds (Failed name) = Unit {0}
@@ -60,7 +60,7 @@ IfToldFault holds (Align name axis) = holds (Align name axis)
 IfToldFault holds Cells = holds Cells
 IfToldFault holds Memory = Unit {0}
 
--- an answer is what the files make of the events, but for failed calls and want of memory
+-- an answer is what the files make of the events, but for failed calls and running out of memory
 abbrev pub IsTold : Result AssemblyValues AssembleFault → Result Assembly AssembleFault → Type 0
 IsTold made (Ok assembly) = made ≡ Ok (assembly_value assembly)
 IsTold made (Err fault) = IfToldFault (λ told. made ≡ Err told) fault

@@ -16,7 +16,7 @@ use std::alloc::{AllocError, Global};
 /// The most used picks of an event that is located.
 pub(crate) const MOST_PICKS: usize = 256;
 
-/// The picks of each event, decided, in the order of the events. Want of memory is the only refusal.
+/// The picks of each event, decided, in the order of the events. Running out of memory is the only refusal.
 pub(crate) fn decide(
     alloc: Global,
     control: &Control,

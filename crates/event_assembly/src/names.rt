@@ -10,7 +10,7 @@ use edt_text::{Name, NameFault};
 use station_table::GridKey;
 use std::alloc::{AllocError, Global};
 
-/// The name of the header of a key. Want of memory is the only refusal.
+/// The name of the header of a key. Running out of memory is the only refusal.
 pub(crate) fn header_name(
     alloc: Global,
     control: &Control,
@@ -27,7 +27,7 @@ pub(crate) fn header_name(
     Name::of_valid(alloc, text.as_bytes())
 }
 
-/// The name of the body of a key. Want of memory is the only refusal.
+/// The name of the body of a key. Running out of memory is the only refusal.
 pub(crate) fn body_name(alloc: Global, control: &Control, key: &GridKey) -> Result<Name, AllocError>
     requires root { IsTrue (is_name 255 control.now.time_root) }
     requires key { IsKey key.now }

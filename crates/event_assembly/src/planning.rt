@@ -28,7 +28,7 @@ pub(crate) struct Plan {
 }
 
 impl Plan {
-    /// The plan by the headers of the wanted keys. Want of memory is the only refusal.
+    /// The plan by the headers of the wanted keys. Running out of memory is the only refusal.
     pub fn new(
         alloc: Global,
         control: &Control,

@@ -11,7 +11,7 @@ use edt_score::{Problem, ProblemPick};
 use station_table::{Picks, UsedPick};
 use std::alloc::{AllocError, Global};
 
-/// The events with their picks and what becomes of them. `row_of_key` has the row of each key that has one. Want of memory is the only
+/// The events with their picks and what becomes of them. `row_of_key` has the row of each key that has one. Running out of memory is the only
 /// refusal.
 pub(crate) fn prepare(
     alloc: Global,

@@ -24,7 +24,7 @@ pub(crate) struct Rows {
 }
 
 impl Rows {
-    /// The rows of the marked keys. Want of memory is the only refusal.
+    /// The rows of the marked keys. Running out of memory is the only refusal.
     pub fn of_marks(alloc: Global, marks: &[bool]) -> Result<Rows, AllocError>
         requires { length marks.now < 2 ^ 32 }
         ensures { IfOk result (AreNumbered marks.now) }
@@ -55,7 +55,7 @@ impl Rows {
     }
 }
 
-/// Marks the keys, of so many, that used picks of ready events have. Want of memory is the only refusal.
+/// Marks the keys, of so many, that used picks of ready events have. Running out of memory is the only refusal.
 pub(crate) fn mark_keys(
     alloc: Global,
     control: &Control,

@@ -4,6 +4,7 @@ use Rattle.std.specs.Prelude.{nat_le}
 use Rattle.std.proofs.lemmas.Grind.{common_steps}
 use Rattle.text_terms.specs.Lines.{LineText, lines_of}
 use Rattle.text_terms.specs.Words.{words_of}
+use Rattle.edt_text.specs.declared.limits.TheConstants.{LONGEST_LINE}
 use Rattle.grid_header.specs.Layout.{are_header_lines, has_shape, grid_words, source_words, line_at}
 
 -- what holds at all holds where there is nothing
@@ -45,7 +46,7 @@ two_given lines start more rest first second same one two = cc
 
 -- a long line among the first two leaves no shape
 pub shape-long : (bytes : List ℕ) (first second : LineText) (more : List LineText) → lines_of bytes ≡ first ∷ second ∷ more
-    → (4096 < length first.bytes) ⊎ ((length first.bytes ≤ 4096) × (4096 < length second.bytes)) → has_shape bytes ≡ false
+    → (LONGEST_LINE < length first.bytes) ⊎ ((length first.bytes ≤ LONGEST_LINE) × (LONGEST_LINE < length second.bytes)) → has_shape bytes ≡ false
 shape-long bytes first second more e long = elim long [
   | inl far ↦ shape-two_lines bytes first second more e ∙ grind (arith, common_steps)
   | inr far ↦ let over = far.1 in shape-two_lines bytes first second more e ∙ grind (arith, common_steps)
@@ -61,6 +62,6 @@ shape-few bytes first second more e few = elim few [
 
 -- short lines with enough words have the shape
 pub shape-whole : (bytes : List ℕ) (first second : LineText) (more : List LineText) → lines_of bytes ≡ first ∷ second ∷ more
-    → length first.bytes ≤ 4096 → length second.bytes ≤ 4096 → nat_le 10 (length (words_of first.bytes)) ≡ true
+    → length first.bytes ≤ LONGEST_LINE → length second.bytes ≤ LONGEST_LINE → nat_le 10 (length (words_of first.bytes)) ≡ true
     → nat_le 4 (length (words_of second.bytes)) ≡ true → has_shape bytes ≡ true
 shape-whole bytes first second more e one two ten four = shape-two_lines bytes first second more e ∙ grind (arith, common_steps)

@@ -3,6 +3,7 @@ use Rattle.std.specs.Prelude.{ℕ, ◌+◌, Bool, ◌&&◌, nat_le, List, [], �
 use Rattle.std.specs.Str.{bytes_eq}
 use Rattle.text_terms.specs.Lines.{LineText, lines_of}
 use Rattle.text_terms.specs.Words.{words_of, word_at}
+use Rattle.edt_text.specs.declared.limits.TheConstants.{LONGEST_LINE}
 
 -- the bytes of a line, counted from 0, or none where there is no such line
 abbrev pub line_at : ℕ → List LineText → List ℕ
@@ -16,12 +17,12 @@ grid_words bytes = words_of (line_at 0 (lines_of bytes))
 unfoldable pub source_words : List ℕ → List (List ℕ)
 source_words bytes = words_of (line_at 1 (lines_of bytes))
 
--- there are two lines, neither of the first two passes 4096 bytes, and they have at least 10 and 4 words
+-- there are two lines, neither of the first two is too long, and they have at least 10 and 4 words
 abbrev pub are_header_lines : List LineText → Bool
 are_header_lines lines =
     nat_le 2 (length lines)
-    && nat_le (length (line_at 0 lines)) 4096
-    && nat_le (length (line_at 1 lines)) 4096
+    && nat_le (length (line_at 0 lines)) LONGEST_LINE
+    && nat_le (length (line_at 1 lines)) LONGEST_LINE
     && nat_le 10 (length (words_of (line_at 0 lines)))
     && nat_le 4 (length (words_of (line_at 1 lines)))
 

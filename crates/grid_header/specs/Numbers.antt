@@ -1,6 +1,7 @@
 -- The numbers of a header and their limits.
 use Rattle.std.specs.Prelude.{ℕ, ◌*◌, ◌^◌, Bool, false, ◌&&◌, nat_le, List, map, get_or, Option, Some, None, is_some, ℤ, pos, int_le, unsigned_abs}
 use Rattle.std.specs.List.{list_all}
+use Rattle.node_boxes.specs.declared.limits.TheConstants.{FARTHEST_ORIGIN, MOST_ON_AXIS, WIDEST_SPACING}
 use Rattle.fixed_decimal.specs.Value.{millionths_of, whole_of}
 use Rattle.grid_header.specs.Layout.{three_from}
 
@@ -35,16 +36,16 @@ is_within low high (Some n) = int_le low n && int_le n high
 
 -- 1 to 4096 nodes on an axis
 abbrev pub is_count : Option ℤ → Bool
-is_count n = is_within (pos 1) (pos 4096) n
+is_count n = is_within (pos 1) (pos MOST_ON_AXIS) n
 
 -- 1 to 10^9 mm
 abbrev pub is_spacing : Option ℤ → Bool
-is_spacing n = is_within (pos 1) (pos (10 ^ 9)) n
+is_spacing n = is_within (pos 1) (pos WIDEST_SPACING) n
 
 -- at most 10^10 mm in size
 abbrev pub is_coordinate : Option ℤ → Bool
 is_coordinate None = false
-is_coordinate (Some n) = nat_le (unsigned_abs n) (10 ^ 10)
+is_coordinate (Some n) = nat_le (unsigned_abs n) FARTHEST_ORIGIN
 
 -- the size of a number, 0 where there is none
 abbrev pub size_of_number : Option ℤ → ℕ

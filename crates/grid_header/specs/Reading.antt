@@ -1,6 +1,7 @@
 -- The reading of a header, and the limits that it is within.
 use Rattle.std.specs.Prelude.{◌≡◌, ℕ, ◌*◌, ◌≤◌, List, None, unwrap_or, ℤ, pos, unsigned_abs}
 use Rattle.text_terms.specs.Words.{word_at}
+use Rattle.node_boxes.specs.declared.limits.TheConstants.{MOST_ON_AXIS}
 use Rattle.fixed_decimal.specs.Value.{millionths_of, whole_of}
 use Rattle.node_boxes.specs.Frame.{IsOrigin, IsSpacing}
 use Rattle.grid_header.specs.declared.header.Header.{Header}
@@ -39,7 +40,7 @@ pub record IsReading (bytes : List ℕ) (h : Header) : Type 0 where
 
 -- 1 to 4096 nodes on an axis
 abbrev pub IsCount : ℕ → Type 0
-IsCount n = (1 ≤ n) × (n ≤ 4096)
+IsCount n = (1 ≤ n) × (n ≤ MOST_ON_AXIS)
 
 -- the counts, the origin, the spacings and the source's place are within their limits
 pub record IsValidHeader (h : Header) : Type 0 where

@@ -3,6 +3,7 @@ ghost use Rattle.std.specs.Prelude.{◌≡◌, ◌+◌, ◌*◌, ◌≤◌, nat_
 ghost use Rattle.std.specs.List.{list_all};
 ghost use Rattle.fixed_decimal.specs.Value.{millionths_of, whole_of};
 ghost use Rattle.edt_text.specs.PlacedWords.{placed_words};
+ghost use Rattle.node_boxes.specs.declared.limits.TheConstants.{MOST_ON_AXIS};
 ghost use Rattle.grid_header.specs.Layout.{three_from};
 ghost use Rattle.grid_header.specs.Numbers.{has_numbers, is_count, are_counts, is_spacing, is_coordinate};
 ghost use Rattle.grid_header.specs.Inside.Fields.{three_numbers, AreNumbersOf, are_all_within, header_with};
@@ -12,14 +13,10 @@ use crate::header::Header;
 use crate::words::HeaderWords;
 use edt_text::PlacedWords;
 use fixed_decimal::{read_millionths, read_whole};
-use node_boxes::FARTHEST_ORIGIN;
+use node_boxes::{FARTHEST_ORIGIN, MOST_ON_AXIS, WIDEST_SPACING};
 
-// The limits of grids, as the numbers that are read; a time grid has more nodes than a search grid.
-const MOST_ON_AXIS: i64 = node_boxes::MOST_ON_AXIS as i64;
-
+// The most nodes of a time grid, which has more of them than a search grid.
 const MOST_TIME_NODES: u64 = 16_000_000;
-
-const WIDEST_SPACING: i64 = node_boxes::WIDEST_SPACING as i64;
 
 // A number for each axis.
 #[derive(Clone, Copy)]
@@ -121,9 +118,9 @@ fn are_axis_counts(n: &Triple) -> bool
 
 // Whether so many nodes on the axes make no more than a header may have.
 fn are_few(x: u64, y: u64, z: u64) -> bool
-    requires x_few { x ≤ 4096 }
-    requires y_few { y ≤ 4096 }
-    requires z_few { z ≤ 4096 }
+    requires x_few { x ≤ MOST_ON_AXIS }
+    requires y_few { y ≤ MOST_ON_AXIS }
+    requires z_few { z ≤ MOST_ON_AXIS }
     ensures { result ≡ nat_le (x * y * z) 16000000 }
 {
     x * y * z <= MOST_TIME_NODES
@@ -144,13 +141,13 @@ fn are_coordinates(n: &Triple) -> bool
 fn is_count(n: i64) -> bool
     ensures { result ≡ is_count (Some n) }
 {
-    (1..=MOST_ON_AXIS).contains(&n)
+    (1..=MOST_ON_AXIS as i64).contains(&n)
 }
 
 fn is_spacing(n: i64) -> bool
     ensures { result ≡ is_spacing (Some n) }
 {
-    (1..=WIDEST_SPACING).contains(&n)
+    (1..=WIDEST_SPACING as i64).contains(&n)
 }
 
 fn is_coordinate(n: i64) -> bool

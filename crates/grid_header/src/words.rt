@@ -3,9 +3,7 @@ ghost use Rattle.std.specs.Prelude.{◌≡◌, ◌≤◌, false, length, IfNone,
 ghost use Rattle.grid_header.specs.Layout.{has_shape};
 ghost use Rattle.grid_header.specs.Inside.Parts.{AreHeaderWords};
 
-use edt_text::{Lines, PlacedWords, Words};
-
-const LONGEST_LINE: usize = 4096;
+use edt_text::{LONGEST_LINE, Lines, PlacedWords, Words};
 
 /// The words of a header's first two lines by their places.
 #[derive(Clone, Copy)]

@@ -31,7 +31,7 @@ pub fn gauss(misfit: u64, scale: u64) -> u64
     if misfit / 4 >= scale {
         return 0;
     }
-    entry(place(misfit, scale))
+    entry(entry_place(misfit, scale))
 }
 
 /// The triangular kernel at a misfit and a scale, both in microseconds:
@@ -66,7 +66,7 @@ pub fn count(limit: u64, misfit: u64) -> u64
 }
 
 /// The place in the Gaussian table: 64 times the misfit over the scale.
-fn place(misfit: u64, scale: u64) -> usize
+fn entry_place(misfit: u64, scale: u64) -> usize
     requires some_scale { 1 ≤ scale }
     requires near { misfit / 4 < scale }
     ensures { result ≡ 64 * misfit / scale }

@@ -24,7 +24,7 @@ pub(crate) struct Origin {
 }
 
 impl Origin {
-    /// The origin time of a problem at a node, by the times of a field. Want of memory is the only refusal.
+    /// The origin time of a problem at a node, by the times of a field. Running out of memory is the only refusal.
     pub fn of(
         alloc: Global,
         field: &Field,

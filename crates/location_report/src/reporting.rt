@@ -28,7 +28,7 @@ use std::alloc::{AllocError, Global};
 /// and the date is that of jiff's calendar, with four digits of the year. The format is this project's own.
 ///
 /// What was found is given exactly for an event with a problem; its hypocentre is a node of the grid, and its lists are within the limits
-/// of a certificate. Lanes are given only where something was found. Want of memory is the only refusal.
+/// of a certificate. Lanes are given only where something was found. Running out of memory is the only refusal.
 #[tactic(auto, unfolding(crate::specs::Blocks::block_of))]
 pub fn report(
     alloc: Global,

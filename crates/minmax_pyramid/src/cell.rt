@@ -27,7 +27,7 @@ pub enum Cell {
     },
 }
 
-/// The cell of a box in the grid. Want of memory is the only refusal.
+/// The cell of a box in the grid. Running out of memory is the only refusal.
 pub(crate) fn build_cell(
     alloc: Global,
     grid: &Grid,

@@ -30,7 +30,7 @@ impl Model for Pyramid {
 
 impl Pyramid {
     /// The pyramid of one time per node, in grid order, over roots that `node_boxes::roots` gave for the
-    /// grid. Want of memory is the only refusal.
+    /// grid. Running out of memory is the only refusal.
     pub fn build(
         alloc: Global,
         grid: &Grid,

@@ -63,7 +63,7 @@ impl PyramidRows {
         }
     }
 
-    /// Adds a row of one time per node, in grid order. Want of memory is the only refusal, and after it the
+    /// Adds a row of one time per node, in grid order. Running out of memory is the only refusal, and after it the
     /// rows are unchanged.
     pub fn push_row(&mut self, alloc: Global, times: Vec<u32>) -> Result<(), AllocError>
         requires { length times.items ≡ node_count self.old.grid }

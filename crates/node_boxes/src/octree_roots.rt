@@ -20,7 +20,7 @@ struct AxisParts {
 /// The roots of the octree of a grid, for these counts of parts on its axes: in the order of the x
 /// parts, then y, then z, with z fastest. Each count is first brought into the range from 1 to the
 /// nodes of its axis. Part `k` of `n` on an axis of `l` nodes runs from `k * l / n` up to but not
-/// `(k + 1) * l / n`. Want of memory is the only refusal.
+/// `(k + 1) * l / n`. Running out of memory is the only refusal.
 pub fn roots(
     alloc: Global,
     grid: &Grid,

@@ -26,7 +26,7 @@ const NEAR_LIMIT: usize = 100_000;
 /// The box with the greatest bound is opened next, until none that waits can hold a better or a near node. The cover then has the fewest
 /// boxes of all octree covers whose boxes are single or have a bound below the threshold, and the judge was asked once for each box that
 /// the rule of the cover meets. `Budget` comes exactly where that are more boxes than the budget, and the judge was then asked at most so
-/// often; `NoFit` exactly where every node scores 0; `NearLimit` exactly where more than 100,000 nodes are near. Want of memory is the only
+/// often; `NoFit` exactly where every node scores 0; `NearLimit` exactly where more than 100,000 nodes are near. Running out of memory is the only
 /// refusal. These rules are this project's own.
 pub fn search<J: Judge>(
     alloc: Global,

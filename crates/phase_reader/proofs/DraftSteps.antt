@@ -5,7 +5,7 @@ use Rattle.std.specs.List.{slice_split}
 use Rattle.std.proofs.lemmas.List.{map-append, length-map}
 use Rattle.std.proofs.lemmas.List.Elements.{filter-append}
 use Rattle.std.proofs.lemmas.Grind.{common_steps}
-use Rattle.phase_reader.specs.declared.draft.Draft.{Draft}
+use Rattle.phase_reader.specs.declared.draft.PhaseDraft.{PhaseDraft}
 use Rattle.phase_reader.specs.declared.kind.LineKind.TheVariants.{Blank, Comment, PublicId, PickLine}
 use Rattle.phase_reader.specs.declared.phases.Event.{Event}
 use Rattle.phase_reader.specs.declared.phases.Pick.{Pick}
@@ -85,7 +85,7 @@ count_no : (lines : List NumberedLine) (line : NumberedLine) → is_passed line 
 count_no lines line is = grind (arith, common_steps)
 
 -- a draft follows a blank line
-pub follows_blank : (lines : List NumberedLine) (line : NumberedLine) (old new : Draft) → Follows lines old → kind_of line ≡ Blank
+pub follows_blank : (lines : List NumberedLine) (line : NumberedLine) (old new : PhaseDraft) → Follows lines old → kind_of line ≡ Blank
     → picks_of_events new.events.items ≡ picks_of_events old.events.items ++ as_event old.picks.items → new.picks.items ≡ [] → new.passed ≡ old.passed
     → Follows (lines ++ line ∷ []) new
 follows_blank lines line old new follows is events none same =
@@ -101,7 +101,7 @@ follows_blank lines line old new follows is events none same =
     }
 
 -- a draft follows a comment as it is
-pub follows_comment : (lines : List NumberedLine) (line : NumberedLine) (draft : Draft) → Follows lines draft → kind_of line ≡ Comment
+pub follows_comment : (lines : List NumberedLine) (line : NumberedLine) (draft : PhaseDraft) → Follows lines draft → kind_of line ≡ Comment
     → Follows (lines ++ line ∷ []) draft
 follows_comment lines line draft follows is =
     let inside : is_parting line ≡ false = ap parts is in
@@ -114,7 +114,7 @@ follows_comment lines line draft follows is =
     }
 
 -- a draft that counts one more line follows one that is passed over
-pub follows_passed : (lines : List NumberedLine) (line : NumberedLine) (old new : Draft) → Follows lines old → kind_of line ≡ PublicId
+pub follows_passed : (lines : List NumberedLine) (line : NumberedLine) (old new : PhaseDraft) → Follows lines old → kind_of line ≡ PublicId
     → new.events ≡ old.events → new.picks ≡ old.picks → new.passed ≡ old.passed + 1 → Follows (lines ++ line ∷ []) new
 follows_passed lines line old new follows is events same more =
     let inside : is_parting line ≡ false = ap parts is in
@@ -129,7 +129,7 @@ follows_passed lines line old new follows is events same more =
     }
 
 -- a draft with one more pick follows its line
-pub follows_pick : (lines : List NumberedLine) (line : NumberedLine) (pick : Pick) (old new : Draft) → Follows lines old → kind_of line ≡ PickLine
+pub follows_pick : (lines : List NumberedLine) (line : NumberedLine) (pick : Pick) (old new : PhaseDraft) → Follows lines old → kind_of line ≡ PickLine
     → new.events ≡ old.events → new.picks.items ≡ old.picks.items ++ pick ∷ [] → pick ≡ pick_of line → new.passed ≡ old.passed
     → Follows (lines ++ line ∷ []) new
 follows_pick lines line pick old new follows is events more means same =
@@ -153,7 +153,7 @@ none_open : (open_picks : List NumberedLine) → map pick_of open_picks ≡ [] �
 none_open [] e = refl
 none_open (line ∷ more) e = absurd cc
 
-events_counted : (lines : List NumberedLine) (draft : Draft) → Follows lines draft → draft.picks.items ≡ [] → length draft.events.items ≡ length (event_lines lines)
+events_counted : (lines : List NumberedLine) (draft : PhaseDraft) → Follows lines draft → draft.picks.items ≡ [] → length draft.events.items ≡ length (event_lines lines)
 events_counted lines draft follows none =
     let no_open : filter is_event (open_lines lines ∷ []) ≡ [] = none_open (open_lines lines) (sym follows.picks ∙ none) in
     let closed : event_lines lines ≡ closed_lines lines = event_lines_cut lines ∙ ap (λ es. closed_lines lines ++ es) no_open ∙ nothing_after (closed_lines lines) in
@@ -162,7 +162,7 @@ events_counted lines draft follows none =
     sym seen ∙ ap length follows.events ∙ told ∙ ap length (sym closed)
 
 -- the limits by the draft are those by the lines
-pub limit_follows : (lines : List NumberedLine) (draft : Draft) (time : ℤ) → Follows lines draft
+pub limit_follows : (lines : List NumberedLine) (draft : PhaseDraft) (time : ℤ) → Follows lines draft
     → passes_limit (length draft.events.items) draft.picks.items time ≡ passes_limit (length (event_lines lines)) (map pick_of (open_lines lines)) time
 limit_follows lines draft time follows =
     limit_same (length draft.events.items) (length (event_lines lines)) draft.picks.items time (events_counted lines draft follows)

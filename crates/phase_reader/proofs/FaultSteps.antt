@@ -4,6 +4,7 @@ use Rattle.std.specs.Prelude.{nat_lt, nat_le, map}
 use Rattle.std.proofs.lemmas.Grind.{common_steps}
 use Rattle.text_terms.specs.Lines.{NumberedLine}
 use Rattle.text_terms.specs.Words.{words_of}
+use Rattle.edt_text.specs.declared.limits.TheConstants.{LONGEST_LINE}
 use Rattle.phase_reader.specs.declared.fault.PhaseCause.{PhaseCause}
 use Rattle.phase_reader.specs.declared.fault.PhaseCause.TheVariants.{Fields, Limit}
 use Rattle.phase_reader.specs.declared.kind.LineKind.{LineKind}
@@ -20,10 +21,10 @@ unfolding kind_of
 kind_by_words line words kind same is = sym (is ∙ ap kind_of_words same)
 
 -- a line of this kind
-pub fault_kind : (lines : List NumberedLine) (line : NumberedLine) (kind : LineKind) → length line.1 ≤ 4096 → kind_of line ≡ kind
+pub fault_kind : (lines : List NumberedLine) (line : NumberedLine) (kind : LineKind) → length line.1 ≤ LONGEST_LINE → kind_of line ≡ kind
     → fault_after lines line ≡ kind_fault kind lines line
 fault_kind lines line kind short is =
-    let within : nat_lt 4096 (length line.1) ≡ false = grind (arith, common_steps) in
+    let within : nat_lt LONGEST_LINE (length line.1) ≡ false = grind (arith, common_steps) in
     rw (within, is) refl
 
 -- a pick with too few words

@@ -4,7 +4,7 @@ use Rattle.std.specs.Prelude.{min, ◌-ℤ◌, unsigned_abs}
 use Rattle.std.proofs.lemmas.List.{length-append}
 use Rattle.std.proofs.lemmas.List.Elements.{All-append, All-cons, All-nil}
 use Rattle.std.proofs.lemmas.Grind.{common_steps}
-use Rattle.phase_reader.specs.declared.draft.Draft.{Draft}
+use Rattle.phase_reader.specs.declared.draft.PhaseDraft.{PhaseDraft}
 use Rattle.phase_reader.specs.declared.phases.Pick.{Pick}
 use Rattle.phase_reader.specs.PhaseEvents.{passes_limit}
 use Rattle.phase_reader.specs.Limits.{IsPick, AreNear, AreNearFirst}
@@ -24,7 +24,7 @@ has_room events (first ∷ more) pick few count near within =
     record { room = room; count = omega (arith, count); near = All-append (AreNear first) more (pick ∷ []) near (All-cons (AreNear first) pick [] far (All-nil (AreNear first))) }
 
 -- a draft with one more pick
-pub limits_pick : (draft new : Draft) (pick : Pick) → new.events ≡ draft.events → new.picks.items ≡ draft.picks.items ++ pick ∷ []
+pub limits_pick : (draft new : PhaseDraft) (pick : Pick) → new.events ≡ draft.events → new.picks.items ≡ draft.picks.items ++ pick ∷ []
     → passes_limit (length draft.events.items) draft.picks.items pick.time ≡ false → IsPick pick → IsDraft draft → IsDraft new
 limits_pick draft new pick events picks within good limits =
     let room : HasRoom (length draft.events.items) draft.picks.items pick = has_room (length draft.events.items) draft.picks.items pick limits.few limits.count limits.near within in

@@ -1,25 +1,7 @@
--- One element of a list, cut off in front of the rest, and numbered lists.
-use Rattle.std.proofs.Common.{◌≡◌, ℕ, zero, suc, ◌+◌, ◌<◌, ◌≤◌, List, [], ◌∷◌, ◌++◌, length, take, drop, Some, Result, Ok, Err, refl, ap, arith, length-drop}
+-- Numbered lists, and what holds where there is a value.
+use Rattle.std.proofs.Common.{◌≡◌, ℕ, zero, suc, ◌+◌, List, [], ◌∷◌, ◌++◌, take, Some, Result, Ok, Err, refl, ap, arith}
 use Rattle.std.specs.Prelude.{OnOk}
 use Rattle.std.specs.List.{slice_get, enumerate_from}
-
--- the element at a place, and what stands after it
-pub record IsHere {A : Type 0} (k : ℕ) (xs : List A) (x : A) (rest : List A) : Type 0 where
-  pub within : k < length xs
-  pub here : slice_get xs k ≡ Some x
-  pub behind : drop (suc k) xs ≡ rest
-
-pub drop_here : {A : Type 0} (k : ℕ) (xs : List A) (x : A) (rest : List A) → drop k xs ≡ x ∷ rest → IsHere k xs x rest
-drop_here zero [] x rest e = absurd cc
-drop_here zero (y ∷ ys) x rest e = record { within = omega arith; here = cc; behind = cc }
-drop_here (suc k) [] x rest e = absurd cc
-drop_here (suc k) (y ∷ ys) x rest e =
-    let more : IsHere k ys x rest = drop_here k ys x rest e in
-    record { within = omega (arith, more.within); here = more.here; behind = more.behind }
-
--- a list that is passed over whole is no longer than what was passed over
-pub drop_none : {A : Type 0} (k : ℕ) (xs : List A) → drop k xs ≡ [] → length xs ≤ k
-drop_none k xs e = omega (arith, length-drop k xs, ap length e)
 
 -- what stands at a place of a numbered list, and the list up to it
 pub record IsNumbered {A : Type 0} (n k : ℕ) (xs : List A) (x : A) : Type 0 where

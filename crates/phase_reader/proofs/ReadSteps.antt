@@ -12,14 +12,15 @@ use Rattle.text_terms.proofs.Cases.{by_bool}
 use Rattle.edt_text.specs.declared.cursor.Line.{Line}
 use Rattle.edt_text.specs.declared.cursor.Lines.{Lines}
 use Rattle.edt_text.specs.LineCursor.{line_text, lines_left, lines_passed}
-use Rattle.phase_reader.specs.declared.draft.Draft.{Draft}
+use Rattle.phase_reader.specs.declared.draft.PhaseDraft.{PhaseDraft}
 use Rattle.phase_reader.specs.declared.fault.PhaseCause.{PhaseCause}
 use Rattle.phase_reader.specs.declared.phases.Phases.{Phases}
 use Rattle.phase_reader.specs.PickFields.{pick_of}
 use Rattle.phase_reader.specs.PhaseEvents.{closed_lines}
 use Rattle.phase_reader.specs.PhaseFile.{fault_after, fault_at, picks_of_events, IsReading, IsPhaseFault}
 use Rattle.phase_reader.specs.Inside.Drafts.{as_event, Follows}
-use Rattle.phase_reader.proofs.ListLaws.{IsHere, drop_here, drop_none, IsNumbered, numbered_here}
+use Rattle.text_terms.proofs.ListLaws.{IsHere, drop_here, drop_none}
+use Rattle.phase_reader.proofs.ListLaws.{IsNumbered, numbered_here}
 use Rattle.phase_reader.proofs.DraftSteps.{events_cut}
 
 -- the bytes of lines
@@ -27,7 +28,7 @@ abbrev pub texts : List LineText → List (List ℕ)
 texts lines = map (λ (line : LineText). line.bytes) lines
 
 -- the lines that were given so far have no fault, and the draft follows them
-pub record Reads (bytes : List ℕ) (lines : Lines) (draft : Draft) : Type 0 where
+pub record Reads (bytes : List ℕ) (lines : Lines) (draft : PhaseDraft) : Type 0 where
   pub left : texts (lines_left lines) ≡ drop (lines_passed lines) (texts (lines_of bytes))
   pub follows : Follows (take (lines_passed lines) (numbered_lines bytes)) draft
   pub clean : NoFaultBelow (fault_at (numbered_lines bytes)) (lines_passed lines)
@@ -50,7 +51,7 @@ pub record IsNext (bytes : List ℕ) (k : ℕ) (line : NumberedLine) (rest : Lis
   pub behind : rest ≡ drop (suc k) (texts (lines_of bytes))
   pub within : k < length (numbered_lines bytes)
 
-next_line : (bytes : List ℕ) (old new : Lines) (draft : Draft) (line : Line) → Reads bytes old draft
+next_line : (bytes : List ℕ) (old new : Lines) (draft : PhaseDraft) (line : Line) → Reads bytes old draft
     → lines_left old ≡ line_text line ∷ lines_left new → line.number ≡ lines_passed old + 1
     → IsNext bytes (lines_passed old) (line.number, line.bytes.now) (texts (lines_left new))
 next_line bytes old new draft line reads e number =
@@ -67,7 +68,7 @@ next_line bytes old new draft line reads e number =
     }
 
 -- one more line without a fault
-pub reads_next : (bytes : List ℕ) (old new : Lines) (draft next : Draft) (line : Line) → Reads bytes old draft
+pub reads_next : (bytes : List ℕ) (old new : Lines) (draft next : PhaseDraft) (line : Line) → Reads bytes old draft
     → lines_left old ≡ line_text line ∷ lines_left new → line.number ≡ lines_passed old + 1 → lines_passed new ≡ line.number
     → ((before : List NumberedLine) → Follows before draft → Follows (before ++ (line.number, line.bytes.now) ∷ []) next)
     → ((before : List NumberedLine) → Follows before draft → fault_after before (line.number, line.bytes.now) ≡ None)
@@ -89,7 +90,7 @@ reads_next bytes old new draft next line reads e number passed follows good room
     }
 
 -- a line with a fault
-pub reads_fault : (bytes : List ℕ) (old new : Lines) (draft : Draft) (line : Line) (cause : PhaseCause) → Reads bytes old draft
+pub reads_fault : (bytes : List ℕ) (old new : Lines) (draft : PhaseDraft) (line : Line) (cause : PhaseCause) → Reads bytes old draft
     → lines_left old ≡ line_text line ∷ lines_left new → line.number ≡ lines_passed old + 1
     → ((before : List NumberedLine) → Follows before draft → fault_after before (line.number, line.bytes.now) ≡ Some cause)
     → IsPhaseFault bytes (record { line = line.number; cause = cause })
@@ -108,7 +109,7 @@ reads_fault bytes old new draft line cause reads e number fault =
     }
 
 -- no line is left
-pub reads_end : (bytes : List ℕ) (lines : Lines) (draft : Draft) (phases : Phases) → Reads bytes lines draft → lines_left lines ≡ []
+pub reads_end : (bytes : List ℕ) (lines : Lines) (draft : PhaseDraft) (phases : Phases) → Reads bytes lines draft → lines_left lines ≡ []
     → picks_of_events phases.events.items ≡ picks_of_events draft.events.items ++ as_event draft.picks.items → phases.passed ≡ draft.passed
     → IsReading bytes phases
 reads_end bytes lines draft phases reads end events passed =

@@ -3,6 +3,7 @@ use Rattle.std.specs.Prelude.{◌≡◌, ℕ, ◌+◌, nat_lt, if◌then◌else�
 use Rattle.std.specs.Option.{option_and_then, option_or}
 use Rattle.text_terms.specs.Faults.{HasNoFault, IsFirstFault}
 use Rattle.text_terms.specs.Lines.{NumberedLine, numbered_lines}
+use Rattle.edt_text.specs.declared.limits.TheConstants.{LONGEST_LINE}
 use Rattle.phase_reader.specs.declared.fault.PhaseCause.{PhaseCause}
 use Rattle.phase_reader.specs.declared.fault.PhaseCause.TheVariants.{LongLine, Limit}
 use Rattle.phase_reader.specs.declared.fault.PhaseFault.{PhaseFault}
@@ -30,7 +31,7 @@ kind_fault PickLine before line = option_or (pick_fault line) (limit_fault befor
 
 -- the fault of a line, given the lines before it
 abbrev pub fault_after : List NumberedLine → NumberedLine → Option PhaseCause
-fault_after before line = if nat_lt 4096 (length line.1) then Some LongLine else kind_fault (kind_of line) before line
+fault_after before line = if nat_lt LONGEST_LINE (length line.1) then Some LongLine else kind_fault (kind_of line) before line
 
 -- the fault of the line at a place, counted from 0
 unfoldable pub fault_at : List NumberedLine → ℕ → Option PhaseCause

@@ -16,14 +16,11 @@ use crate::fault::PhaseCause;
 use crate::kind::{LineKind, kind_of};
 use crate::phases::{Event, Phases, Pick};
 use crate::values::{read_decimal, read_time, read_weight};
-use edt_text::{Name, PlacedWords, Words, is_name};
+use edt_text::{LONGEST_LINE, Name, PlacedWords, Words, is_name};
 use std::alloc::Global;
 use std::mem;
 
-// The limits of this project: bytes of a line, events of a file, picks of an event, and microseconds between a pick and its event's
-// first.
-const LONGEST_LINE: usize = 4096;
-
+// The limits of this project: events of a file, picks of an event, and microseconds between a pick and its event's first.
 const MOST_EVENTS: usize = 10_000;
 
 const MOST_PICKS: usize = 4096;
@@ -33,19 +30,19 @@ const FARTHEST: u64 = 1_000_000_000_000;
 /// What the lines so far say: the events that a blank line ended, the picks after the last blank line, and how many lines were
 /// passed over.
 #[derive(Drop)]
-pub(crate) struct Draft {
+pub(crate) struct PhaseDraft {
     events: Vec<Event>,
     picks: Vec<Pick>,
     passed: u32,
 }
 
-impl Draft {
+impl PhaseDraft {
     /// The draft of no lines.
-    pub(crate) fn new(alloc: Global) -> Draft
+    pub(crate) fn new(alloc: Global) -> PhaseDraft
         ensures follows { Follows [] result }
         ensures limits { IsDraft result }
     {
-        Draft {
+        PhaseDraft {
             events: Vec::new(alloc),
             picks: Vec::new(alloc),
             passed: 0,

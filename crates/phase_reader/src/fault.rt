@@ -33,7 +33,7 @@ pub enum PhaseCause {
     Memory,
 }
 
-/// A fault of a phase file: that of its first faulty line, or want of memory.
+/// A fault of a phase file: that of its first faulty line, or running out of memory.
 #[derive(Clone, Copy, Debug, PartialEq, Eq, Error)]
 #[error("line {line}: {cause}")]
 pub struct PhaseFault {

@@ -5,7 +5,7 @@ ghost use Rattle.phase_reader.specs.declared.phases.Phases.{Phases};
 ghost use Rattle.phase_reader.specs.Limits.{IsEvent};
 ghost use Rattle.phase_reader.specs.PhaseFile.{IsReading, IsPhaseFault};
 
-use crate::draft::Draft;
+use crate::draft::PhaseDraft;
 use crate::fault::{PhaseCause, PhaseFault};
 use crate::phases::Phases;
 use edt_text::Lines;
@@ -15,7 +15,7 @@ use std::alloc::Global;
 ///
 /// The lines are those between line feeds. The first faulty line decides, and in it the first cause in the order of `PhaseCause`:
 /// `LongLine` for a line of any kind; then, for a pick, `Fields` for fewer than 11 words, the words from left to right, and `Limit`.
-/// `Memory` comes for want of memory alone.
+/// `Memory` comes when out of memory, and for nothing else.
 pub fn read_phases(alloc: Global, bytes: &[u8]) -> Result<Phases, PhaseFault>
     requires { length bytes.now ≤ 16777216 }
     ensures value { IfOk result (λ phases. IsReading bytes.now phases) }
@@ -24,7 +24,7 @@ pub fn read_phases(alloc: Global, bytes: &[u8]) -> Result<Phases, PhaseFault>
     ensures fault { IfErr result (λ fault. fault.cause ≢ PhaseCause.Memory → IsPhaseFault bytes.now fault) }
 {
     let mut lines = Lines::new(bytes);
-    let mut draft = Draft::new(alloc);
+    let mut draft = PhaseDraft::new(alloc);
     while let Some(line) = lines.next() {
         match draft.take_line(alloc, line.number, line.bytes) {
             Ok(()) => {}

@@ -123,7 +123,7 @@ control_read (Some files) name main names contents control told are read is =
       says_values lines control is.says ∙ ap values_in same,
     )
 
--- a fault is a refusal of the file, or want of memory, which tells nothing
+-- a fault is a refusal of the file, or running out of memory, which tells nothing
 refused : (found : Option Refusal) (fault : ControlFault) (refusal : Refusal) → (fault.cause ≢ Memory → found ≡ Some (control_is fault))
     → (fault.cause ≢ Memory → refusal ≡ control_is fault) → (fault.cause ≡ Memory → refusal ≡ memory_is)
     → is_untold refusal ≡ false → found ≡ Some refusal

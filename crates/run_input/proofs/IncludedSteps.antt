@@ -87,7 +87,7 @@ pub reads_all : (F : Option Files) (names contents : List (List ℕ)) (i : ℕ) 
     → IfSome F (λ files. AreRead files names contents)
 reads_all F names contents i past read = subst (λ ns. IfSome F (λ files. AreRead files ns contents)) (take_all i names past) read
 
--- want of memory tells nothing
+-- running out of memory tells nothing
 pub untold : (F : Option Files) (found : Files → Option Refusal) (refusal : Refusal) → is_untold refusal ≡ true
     → IfSome F (λ files. is_untold refusal ≡ false → found files ≡ Some refusal)
 untold None found refusal is = tt

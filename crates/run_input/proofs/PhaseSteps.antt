@@ -69,7 +69,7 @@ phases_read (Some files) name bytes phases told is =
       },
     )
 
--- the refusal of a fault, or want of memory, which tells nothing
+-- the refusal of a fault, or running out of memory, which tells nothing
 pub phases_refused : (F : Option Files) (name : List ℕ) (bytes : Vec ℕ) (fault : PhaseFault) (refusal : Refusal) → IfSome F (λ files. IsPhaseBytes files name bytes)
     → (fault.cause ≢ Memory → IsPhaseFault bytes.items fault)
     → (fault.cause ≢ Memory → refusal ≡ phases_is fault) → (fault.cause ≡ Memory → refusal ≡ memory_is)

@@ -45,7 +45,7 @@ body_line program name cause = told_line program (codes "body" ∷ name ∷ caus
 abbrev pub cells_line : List ℕ → List ℕ
 cells_line program = told_line program (codes "grids" ∷ codes "Cells" ∷ [])
 
--- want of memory
+-- running out of memory
 abbrev pub memory_line : List ℕ → List ℕ
 memory_line program = told_line program (codes "memory" ∷ [])
 

@@ -32,7 +32,7 @@ abbrev pub status_of_answer : {T : Type 0} → Result T Refusal → ℕ
 status_of_answer (Ok _) = 0
 status_of_answer (Err refusal) = status_of refusal
 
--- want of memory and failed calls aren't told by the files
+-- running out of memory and failed calls aren't told by the files
 abbrev pub is_untold : Refusal → Bool
 is_untold refusal = is_one_of (status_of refusal) (6 ∷ 7 ∷ [])
 
@@ -52,7 +52,7 @@ refusal_of_fault (fault_align name axis) = Align name axis
 refusal_of_fault fault_cells = Cells
 refusal_of_fault fault_memory = Memory
 
--- the cause of a control file is that of some line, and no want of memory
+-- the cause of a control file is that of some line, and isn't that memory ran out
 abbrev pub is_control_cause : ControlCause → Bool
 is_control_cause LongLine = true
 is_control_cause Repeated = true
@@ -67,7 +67,7 @@ is_control_cause NestedInclude = true
 is_control_cause (Missing keyword) = true
 is_control_cause control_memory = false
 
--- the cause of a phase file is that of some line, and no want of memory
+-- the cause of a phase file is that of some line, and isn't that memory ran out
 abbrev pub is_phase_cause : PhaseCause → Bool
 is_phase_cause phase_long_line = true
 is_phase_cause phase_fields = true
@@ -79,7 +79,7 @@ is_phase_cause ErrorType = true
 is_phase_cause phase_limit = true
 is_phase_cause phase_memory = false
 
--- the cause of a body is one of its bytes, and no absent file, failed call or want of memory
+-- the cause of a body is one of its bytes, and no absent file, failed call or running out of memory
 abbrev pub is_body_cause : GridFault → Bool
 is_body_cause grid_absent = false
 is_body_cause grid_failed = false

@@ -31,7 +31,7 @@ pub struct RunInput {
 ///
 /// The first refusal in the order of work decides: the main file, the lines of it that include files, these files in turn, the
 /// statements, the phase file, its lines, and then the refusals of `assemble`. Each refusal has its status. Where the shelf tells its
-/// files the answer is one function of them, but for failed calls and want of memory.
+/// files the answer is one function of them, but for failed calls and running out of memory.
 pub fn read_run<S: Shelf>(alloc: Global, shelf: &mut S, name: &str) -> Result<RunInput, Refusal>
     requires named { IsTrue (is_name 512 name.now) }
 

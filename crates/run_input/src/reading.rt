@@ -141,7 +141,7 @@ fn read_file<S: Shelf>(
     }
 }
 
-/// The name of a word that may name a file. Want of memory alone refuses it.
+/// The name of a word that may name a file. It is refused when out of memory, and for nothing else.
 pub fn file_name(alloc: Global, word: &str) -> Result<Name, AllocError>
     requires named { IsTrue (is_name 512 word.now) }
     ensures { IfOk result (λ name. name ≡ word.now) }

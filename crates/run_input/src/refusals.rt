@@ -65,7 +65,7 @@ impl Refusal {
     ghost use Rattle.std.specs.Prelude.{◌≡◌};
     ghost use Rattle.run_input.specs.Refusals.{status_of};
 
-    /// The status that names it: 3 for a control file, 4 for a phase file, 5 for time grids, 6 for want of memory, 7 for a failed call
+    /// The status that names it: 3 for a control file, 4 for a phase file, 5 for time grids, 6 when out of memory, 7 for a failed call
     /// and 9 for an absent file.
     pub fn status(&self) -> u8
         ensures { result ≡ status_of self.now }

@@ -23,7 +23,7 @@ impl Lanes {
 
     /// What a finished run has found: what one search of these roots finds. `None` exactly where the run isn't finished.
     ///
-    /// The judge fits the lanes, and isn't asked. Want of memory is the only refusal. These rules are this project's own.
+    /// The judge fits the lanes, and isn't asked. Running out of memory is the only refusal. These rules are this project's own.
     pub fn outcome<J: Judge>(&self, alloc: Global, judge: &J) -> Result<Option<Found>, AllocError>
         requires fits { Fits (J.grid judge.now) (J.roots judge.now) (J.bound_of judge.now) self.now }
         ensures value { IfOk result (λ found. MatchOption found

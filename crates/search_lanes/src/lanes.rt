@@ -49,7 +49,7 @@ impl Lanes {
     /// The start of a search that 1 to 64 lanes share: no lane has a box, and the roots are open. Where there are more roots than the
     /// budget, the run is over at once.
     ///
-    /// The judge is asked once per root, and not at all where the run is over at once. Want of memory is the only refusal; memory is taken
+    /// The judge is asked once per root, and not at all where the run is over at once. Running out of memory is the only refusal; memory is taken
     /// before the judge is asked. These rules are this project's own.
     pub fn begin<J: Judge>(
         alloc: Global,

@@ -28,7 +28,7 @@ pub struct LaneRun {
 /// The events are the schedule of the seed, and a finished run. A generator begins with the seed modulo 2^64. While the run isn't finished,
 /// it draws; where the draw is 0 modulo 64 and more than one lane is left, the greatest lane that is left is lost. Else a second draw chooses
 /// among what the lanes can do, in their order: a lane that holds a box is done with it, and one without takes the first ready box. There are
-/// at most `budget + 3 * lanes` events. A lost lane's box isn't asked for again. Want of memory is the only refusal. These rules are this
+/// at most `budget + 3 * lanes` events. A lost lane's box isn't asked for again. Running out of memory is the only refusal. These rules are this
 /// project's own.
 pub fn search_lanes<J: Judge>(
     alloc: Global,

@@ -22,7 +22,7 @@ use Rattle.station_table.specs.Limits.{HoldsKeyOf, HoldsKeysOf, IsUsedPick}
 use Rattle.station_table.specs.Stations.{station_of, phase_of}
 use Rattle.station_table.specs.Using.{reason_of, used_picks, used_pick, used_pick_at, delay_for}
 use Rattle.station_table.proofs.DecideLaws.{none_early}
-use Rattle.station_table.proofs.ListLaws.{find-All}
+use Rattle.text_terms.proofs.ListLaws.{find-All}
 use Rattle.station_table.proofs.ReasonLaws.{weight_above, error_within}
 use Rattle.station_table.proofs.UsingLaws.{used_all}
 

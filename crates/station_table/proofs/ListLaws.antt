@@ -1,9 +1,6 @@
 -- Tests of the items of a list.
-use Rattle.std.proofs.Common.{◌≡◌, Bool, All, inl, inr, List, [], ◌∷◌, ◌++◌, length, refl, subst, arith}
-use Rattle.std.specs.Prelude.{IfSome}
-use Rattle.std.specs.List.{list_any, find}
-use Rattle.std.proofs.lemmas.Bool.{cases_Bool}
-use Rattle.std.proofs.lemmas.List.Elements.{All-head, All-tail}
+use Rattle.std.proofs.Common.{◌≡◌, Bool, All, List, [], ◌∷◌, ◌++◌, length, refl, subst, arith}
+use Rattle.std.specs.List.{list_any}
 use Rattle.std.proofs.lemmas.List.{get_or_append_left, get_or_push, length_push}
 
 -- two tests that agree find the same
@@ -17,11 +14,3 @@ All-split P xs x all = (
   λ k d below. subst P (get_or_append_left xs (x ∷ []) d k below) (all k d (omega (arith, length_push xs x))),
   subst P (get_or_push xs x x (length xs) refl) (all (length xs) x (omega (arith, length_push xs x))),
 )
-
--- what holds of each item holds of the one that is found
-pub find-All : {A : Type 0} (P : A → Type 0) (test : A → Bool) (xs : List A) → All P xs → IfSome (find test xs) P
-find-All P test [] all = tt
-find-All P test (x ∷ xs) all = elim (cases_Bool (test x)) [
-  | inl here ↦ rw here (All-head P x xs all)
-  | inr not_here ↦ rw not_here (find-All P test xs (All-tail P x xs all))
-]

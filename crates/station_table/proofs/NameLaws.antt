@@ -18,7 +18,7 @@ use Rattle.station_table.specs.Keys.{key_for, key_of, keys_of, is_converted, is_
 use Rattle.station_table.specs.Limits.{IsKey}
 use Rattle.station_table.specs.Stations.{station_of, phase_of, is_alias_of}
 use Rattle.std.specs.Str.{bytes_eq}
-use Rattle.station_table.proofs.ListLaws.{find-All}
+use Rattle.text_terms.proofs.ListLaws.{find-All}
 use Rattle.station_table.proofs.SeenLaws.{seen_all}
 
 -- a name that is found, or else another one

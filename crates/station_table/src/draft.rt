@@ -129,7 +129,7 @@ fn decide(rules: &Rules, met: &mut MetKeys, named: &NamedPick, used: usize) -> R
         Some(reason) => Err(reason),
         None => {
             let key = KeyWords::for_phase(rules.control, named.station, named.phase);
-            let place = rules.index.place(&key);
+            let place = rules.index.key_place(&key);
             let is_met = met.meet(place);
             match late_reason(rules.control, is_met, &rules.places[place], used) {
                 Some(reason) => Err(reason),

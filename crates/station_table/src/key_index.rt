@@ -62,7 +62,7 @@ impl<'a> KeyIndex<'a> {
 
     /// The place of a key that is there, from 0.
     #[tactic(auto, unfolding(crate::specs::Keys::key_place))]
-    pub(crate) fn place(&self, words: &KeyWords<'a>) -> usize
+    pub(crate) fn key_place(&self, words: &KeyWords<'a>) -> usize
         requires { IsTrue (list_any (same_key (as_key words.now)) self.now) }
         ensures place { key_place self.now (as_key words.now) ≡ Some result }
         ensures within { result < length self.now }

@@ -37,7 +37,7 @@ impl<'a> Model for KeyTable<'a> {
 
 impl<'a> KeyTable<'a> {
     /// The table of fewer than 2^32 keys, none of them twice, and of the place of the source of each, in the same order, with coordinates
-    /// of at most 10^10 mm in size. The control is within the limits in which `read_control` answers it. Want of memory is the only
+    /// of at most 10^10 mm in size. The control is within the limits in which `read_control` answers it. Running out of memory is the only
     /// refusal.
     pub fn new(
         alloc: Global,
@@ -58,7 +58,7 @@ impl<'a> KeyTable<'a> {
     }
 
     /// The picks of an event that are used, and those that aren't, as `use_picks` of this crate answers them. The keys hold each key of
-    /// the event that `wanted` names, and the event is within the limits in which `read_phases` answers it. Want of memory is the only
+    /// the event that `wanted` names, and the event is within the limits in which `read_phases` answers it. Running out of memory is the only
     /// refusal. The table is unchanged, so that it serves the next event.
     pub fn use_picks(&mut self, alloc: Global, event: &Event) -> Result<Picks, AllocError>
         requires event { IsEvent event.now }

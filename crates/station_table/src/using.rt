@@ -20,7 +20,7 @@ use std::alloc::{AllocError, Global};
 ///
 /// `keys` has fewer than 2^32 keys, none of them twice, and each key of the event that `wanted` names. `places` has the place of the
 /// source of each key, in the same order, with coordinates of at most 10^10 mm in size. Control and event are within the limits in which
-/// `read_control` and `read_phases` answer them. Want of memory is the only refusal.
+/// `read_control` and `read_phases` answer them. Running out of memory is the only refusal.
 ///
 /// Times are in microseconds, weights in thousandths, distances in millimetres. The times of two used picks differ by at most
 /// 2,200,000,000,000 microseconds, and each is at most 4*10^17 in size.

@@ -20,7 +20,7 @@ use std::alloc::{AllocError, Global};
 /// which they are first seen: so each event has the key of each of its picks that may need a grid among them. Picks that are unused
 /// for another reason, such as duplicates, have theirs among them too.
 ///
-/// Control and events are within the limits in which `read_control` and `read_phases` answer them. Want of memory is the only refusal.
+/// Control and events are within the limits in which `read_control` and `read_phases` answer them. Running out of memory is the only refusal.
 pub fn wanted(
     alloc: Global,
     control: &Control,

@@ -26,7 +26,7 @@ pub enum ReportCause {
     Memory,
 }
 
-// The first faulty line of a report and its first cause, or want of memory.
+// The first faulty line of a report and its first cause, or running out of memory.
 #[derive(Clone, Copy, Debug, PartialEq, Eq, Error)]
 #[error("line {line}: {cause}")]
 pub struct ReportFault {
@@ -52,7 +52,7 @@ impl<T: Drop> From<AllocFailed<T>> for ReportFault {
     }
 }
 
-// Want of memory, at no line.
+// Running out of memory, at no line.
 const OUT_OF_MEMORY: ReportFault = ReportFault {
     line: 0,
     cause: ReportCause::Memory,

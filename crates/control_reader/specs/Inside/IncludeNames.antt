@@ -9,6 +9,7 @@ use Rattle.control_reader.specs.declared.statement.LineKind.TheVariants.{Blank, 
 use Rattle.control_reader.specs.ControlLines.{ControlLine, is_include, arguments_of, statements_with}
 use Rattle.control_reader.specs.Values.{include_of}
 use Rattle.text_terms.specs.Faults.{first_cause, unless}
+use Rattle.edt_text.specs.declared.limits.TheConstants.{LONGEST_LINE}
 use Rattle.control_reader.specs.WordFaults.{words_fault}
 use Rattle.control_reader.specs.Includes.{name_fault_at}
 use Rattle.control_reader.specs.Inside.NextFault.{includes_file}
@@ -29,7 +30,7 @@ unfoldable pub name_fault_by : ℕ → ControlLine → Option ControlCause
 name_fault_by before line =
     if is_include line
     then first_cause (
-    unless (nat_le (length line.bytes) 4096) LongLine
+    unless (nat_le (length line.bytes) LONGEST_LINE) LongLine
     ∷ words_fault Include (arguments_of line)
     ∷ unless (not (nat_le 16 before)) Limit
     ∷ [])

@@ -10,6 +10,7 @@ use Rattle.control_reader.specs.declared.statement.LineKind.{LineKind}
 use Rattle.control_reader.specs.declared.statement.LineKind.TheVariants.{Blank, Comment, Passed, Of}
 use Rattle.control_reader.specs.ControlLines.{ControlLine, kind_of, arguments_of}
 use Rattle.text_terms.specs.Faults.{first_cause, unless}
+use Rattle.edt_text.specs.declared.limits.TheConstants.{LONGEST_LINE}
 use Rattle.control_reader.specs.WordFaults.{words_fault}
 use Rattle.control_reader.specs.Inside.Said.{Said}
 
@@ -57,4 +58,4 @@ kind_fault_by (Of statement) said file words = statement_fault_by said file stat
 -- the fault of a line, given what the lines before it say
 abbrev pub fault_by : Said → ControlLine → Option ControlCause
 fault_by said line =
-    if nat_lt 4096 (length line.bytes) then Some LongLine else kind_fault_by (kind_of line) said line.file (arguments_of line)
+    if nat_lt LONGEST_LINE (length line.bytes) then Some LongLine else kind_fault_by (kind_of line) said line.file (arguments_of line)

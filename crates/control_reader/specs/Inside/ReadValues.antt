@@ -8,7 +8,7 @@ abbrev pub Puts : {T U : Type 0} → Result T ControlCause → Option T → Resu
 Puts (Ok value) place result = (place ≡ Some value) × IsTrue (is_ok result)
 Puts (Err cause) place result = IfErr result (λ other. other ≡ cause) × IsTrue (not (is_ok result))
 
--- a value that was read stands after the others, but for want of memory, and a cause is handed on
+-- a value that was read stands after the others, but when out of memory, and a cause is handed on
 abbrev pub Pushes : {T U : Type 0} → Result T ControlCause → List T → List T → Result U ControlCause → Type 0
 Pushes (Ok value) before after result = OnOk result (after ≡ before ++ value ∷ []) × IfErr result (λ other. other ≡ Memory)
 Pushes (Err cause) before after result = IfErr result (λ other. other ≡ cause) × IsTrue (not (is_ok result))

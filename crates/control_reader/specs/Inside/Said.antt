@@ -9,7 +9,7 @@ use Rattle.control_reader.specs.declared.control.PhaseId.{PhaseId}
 use Rattle.control_reader.specs.declared.control.Exclude.{Exclude}
 use Rattle.control_reader.specs.declared.control.Delay.{Delay}
 use Rattle.control_reader.specs.declared.control.Alias.{Alias}
-use Rattle.control_reader.specs.declared.draft.Draft.{Draft}
+use Rattle.control_reader.specs.declared.draft.ControlDraft.{ControlDraft}
 use Rattle.control_reader.specs.declared.values.Files.{Files}
 use Rattle.control_reader.specs.declared.values.Method.{Method}
 use Rattle.control_reader.specs.ControlLines.{ControlLine, is_include, statement_with, statements_with}
@@ -36,7 +36,7 @@ pub record Said : Type 0 where
   pub passed : ℕ
 
 -- what a draft holds
-abbrev pub said_of : Draft → Said
+abbrev pub said_of : ControlDraft → Said
 said_of draft = record {
   files = draft.files;
   frame = draft.frame;

@@ -4,6 +4,7 @@ ghost use Rattle.node_boxes.specs.Frame.{IsValidFrame};
 ghost use Rattle.node_boxes.specs.Grid.{IsGrid, grid_size};
 ghost use Rattle.edt_text.specs.PlacedWords.{placed_words};
 ghost use Rattle.text_terms.specs.Words.{word_at};
+ghost use Rattle.node_boxes.specs.declared.limits.TheConstants.{MOST_NODES};
 ghost use Rattle.control_reader.specs.Words.{count_at};
 ghost use Rattle.control_reader.specs.Values.{frame_of};
 ghost use Rattle.control_reader.specs.WordFaults.{axis_fault, frame_fault};
@@ -45,7 +46,7 @@ fn read_grid(arguments: &PlacedWords) -> Result<Grid, ControlCause>
     ensures x { OnOk result (axis_fault (word_at 0 (placed_words arguments.now)) ≡ None) }
     ensures y { OnOk result (axis_fault (word_at 1 (placed_words arguments.now)) ≡ None) }
     ensures z { OnOk result (axis_fault (word_at 2 (placed_words arguments.now)) ≡ None) }
-    ensures nodes { OnOk result (nat_le (count_at 0 (placed_words arguments.now) * count_at 1 (placed_words arguments.now) * count_at 2 (placed_words arguments.now)) 2000000 ≡ true) }
+    ensures nodes { OnOk result (nat_le (count_at 0 (placed_words arguments.now) * count_at 1 (placed_words arguments.now) * count_at 2 (placed_words arguments.now)) MOST_NODES ≡ true) }
     ensures limits { IfOk result IsGrid }
     ensures fault { IfErr result (λ cause. frame_fault (placed_words arguments.now) ≡ Some cause) }
 {

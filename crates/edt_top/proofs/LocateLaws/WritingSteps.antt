@@ -21,7 +21,7 @@ joined_append xs ys = flat_map-append (λ (text : List ℕ). text) xs ys
 pub joined_one : (part : List ℕ) → joined (part ∷ []) ≡ part
 joined_one part = append-nil part
 
--- nothing was written for want of memory
+-- nothing was written when out of memory
 pub writes_none : (before after : Option (List ℕ)) (parts : List (List ℕ)) → 0 < length parts → after ≡ before → WritingEnds parts (Err Memory) (Appends before after)
 writes_none before after parts some same = (0, some, appends_none before after same)
 
@@ -36,7 +36,7 @@ cut_after before mid after first part rest whole written is cut =
     let short : length (first ++ take k part) ≡ length first + k = omega (arith, length-append first (take k part), length-take-le k part (omega (arith, less))) in
     (length (first ++ take k part), omega (arith, less, size, short), subst (Appends before after) front (appends_then before mid after first (take k part) written cut.2))
 
--- want of memory after the first items of a numbered list
+-- running out of memory after the first items of a numbered list
 pub writes_stop : {X : Type 0} (f : ℕ × X → List ℕ) (xs : List X) (i : ℕ) (d : X) (before after : Option (List ℕ)) → i < length xs
     → Appends before after (joined (numbered f (take i xs))) → WritingEnds (numbered f xs) (Err Memory) (Appends before after)
 writes_stop f xs i d before after within written =

@@ -20,7 +20,7 @@ pub record IsHead (words : Words) (head : Head) : Type 0 where
   pub nodes : nodes_in words ≤ 65536
   pub times : picks_in words * nodes_in words ≤ 1000000
 
--- a refusal for a fault names the first faulty word; want of memory is free
+-- a refusal for a fault names the first faulty word; running out of memory is free
 abbrev pub NamesFault : Words → ReadRefusal → Type 0
 NamesFault words (Faulty fault) = Names words fault
 NamesFault words Memory = ⊤

@@ -8,7 +8,7 @@ use Rattle.edt_top.specs.Runs.{joined}
 use Rattle.run_input.specs.Told.{IsCutShort}
 use Rattle.run_input.specs.declared.refusals.Refusal.TheVariants.{Memory as memory_refusal}
 
--- all parts were written; a proper front of their text where a write failed; or some first ones, but not all, for want of memory
+-- all parts were written; a proper front of their text where a write failed; or some first ones, but not all, when out of memory
 abbrev pub WritingEnds : List (List ℕ) → Result (Unit {0}) WriteFault → (List ℕ → Type 0) → Type 0
 WritingEnds parts (Ok _) Wrote = Wrote (joined parts)
 WritingEnds parts (Err Failed) Wrote = IsCutShort Wrote (joined parts)

@@ -168,7 +168,7 @@ fn read_picks(
 }
 
 // The travel times of one pick at all nodes.
-fn read_row(
+fn row_times(
     alloc: Global,
     cursor: &mut Cursor,
     row: u32,
@@ -195,7 +195,7 @@ fn read_row(
 }
 
 // The travel times of all picks, a row a pick.
-fn read_rows(
+fn push_rows(
     alloc: Global,
     cursor: &mut Cursor,
     picks: u32,
@@ -214,7 +214,7 @@ fn read_rows(
 {
     let nodes = field.grid().nodes();
     for row in 0..picks {
-        let times = read_row(alloc, cursor, row, nodes)?;
+        let times = row_times(alloc, cursor, row, nodes)?;
         field.push_row(times)?;
     }
     Ok(())
@@ -230,7 +230,7 @@ pub fn read_problem(alloc: Global, bytes: &[u8]) -> Result<ProblemFile, ReadRefu
     let picks = read_picks(alloc, &mut cursor, head.picks)?;
     let roots = roots(alloc, &head.grid, 1, 1, 1)?;
     let mut field = Field::new(alloc, head.grid, roots)?;
-    read_rows(alloc, &mut cursor, head.picks, &mut field)?;
+    push_rows(alloc, &mut cursor, head.picks, &mut field)?;
     cursor.end()?;
     Ok(ProblemFile {
         field,

@@ -21,7 +21,7 @@ use Rattle.event_assembly.specs.Headers.{header_fault, fault_of_file}
 use Rattle.event_assembly.specs.Names.{header_name, body_name}
 use Rattle.event_assembly.specs.Rows.{body_search_times, times_for, fault_of_row_file, row_fault, row_times}
 
--- a refusal is the first fault, but for failed calls and want of memory
+-- a refusal is the first fault, but for failed calls and running out of memory
 abbrev pub IsRefusal : Option AssembleFault → AssembleFault → Type 0
 IsRefusal first fault = IfToldFault (λ told. first ≡ Some told) fault
 

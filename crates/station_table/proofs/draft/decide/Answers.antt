@@ -27,51 +27,51 @@ returns-in-Some-late_reason-clause-notes c =
     let rules = c.args.rules.now in
     let control = values_of rules.control.now in
     let pick = c.args.named.now.pick.now in
-    let place = c.place-place.result in
+    let place = c.key_place-place.result in
     let early : early_reason control pick ≡ None = sym c.requires.named.reason ∙ c.in-None.is in
     let key = c.for_phase-key.ensures ∙ (λ j. key_for control (c.requires.named.station j) (c.requires.named.phase j)) in
-    let at : key_place rules.index (key_of control pick) ≡ Some place = ap (key_place rules.index) (sym key) ∙ c.place-place.ensures.place in
+    let at : key_place rules.index (key_of control pick) ≡ Some place = ap (key_place rules.index) (sym key) ∙ c.key_place-place.ensures.place in
     λ before notes.
     subst (Notes rules (before ++ pick ∷ [])) (sym c.meet-is_met.ensures.after)
-    (notes_wanted rules before pick c.args.met.now place (ap is_none early) at c.place-place.ensures.within notes)
+    (notes_wanted rules before pick c.args.met.now place (ap is_none early) at c.key_place-place.ensures.within notes)
 
 pub returns-in-Some-late_reason-clause-reason : goal.returns-in-Some-late_reason-clause-reason
 returns-in-Some-late_reason-clause-reason c =
     let rules = c.args.rules.now in
     let control = values_of rules.control.now in
     let pick = c.args.named.now.pick.now in
-    let place = c.place-place.result in
+    let place = c.key_place-place.result in
     let early : early_reason control pick ≡ None = sym c.requires.named.reason ∙ c.in-None.is in
     let key = c.for_phase-key.ensures ∙ (λ j. key_for control (c.requires.named.station j) (c.requires.named.phase j)) in
-    let at : key_place rules.index (key_of control pick) ≡ Some place = ap (key_place rules.index) (sym key) ∙ c.place-place.ensures.place in
+    let at : key_place rules.index (key_of control pick) ≡ Some place = ap (key_place rules.index) (sym key) ∙ c.key_place-place.ensures.place in
     λ before notes count.
     sym c.in-Some-late_reason.is ∙ c.late_reason.ensures
     ∙ sym (late_is control rules.index rules.places.now before pick place c.meet-is_met.result c.args.used early at
-    (c.meet-is_met.ensures.before ∙ notes.noted place c.place-place.ensures.within) count)
+    (c.meet-is_met.ensures.before ∙ notes.noted place c.key_place-place.ensures.within) count)
 
 pub returns-in-None-late_reason-clause-notes : goal.returns-in-None-late_reason-clause-notes
 returns-in-None-late_reason-clause-notes c =
     let rules = c.args.rules.now in
     let control = values_of rules.control.now in
     let pick = c.args.named.now.pick.now in
-    let place = c.place-place.result in
+    let place = c.key_place-place.result in
     let early : early_reason control pick ≡ None = sym c.requires.named.reason ∙ c.in-None.is in
     let key = c.for_phase-key.ensures ∙ (λ j. key_for control (c.requires.named.station j) (c.requires.named.phase j)) in
-    let at : key_place rules.index (key_of control pick) ≡ Some place = ap (key_place rules.index) (sym key) ∙ c.place-place.ensures.place in
+    let at : key_place rules.index (key_of control pick) ≡ Some place = ap (key_place rules.index) (sym key) ∙ c.key_place-place.ensures.place in
     λ before notes.
     subst (Notes rules (before ++ pick ∷ [])) (sym c.meet-is_met.ensures.after)
-    (notes_wanted rules before pick c.args.met.now place (ap is_none early) at c.place-place.ensures.within notes)
+    (notes_wanted rules before pick c.args.met.now place (ap is_none early) at c.key_place-place.ensures.within notes)
 
 pub returns-in-None-late_reason-clause-reason : goal.returns-in-None-late_reason-clause-reason
 returns-in-None-late_reason-clause-reason c =
     let rules = c.args.rules.now in
     let control = values_of rules.control.now in
     let pick = c.args.named.now.pick.now in
-    let place = c.place-place.result in
+    let place = c.key_place-place.result in
     let early : early_reason control pick ≡ None = sym c.requires.named.reason ∙ c.in-None.is in
     let key = c.for_phase-key.ensures ∙ (λ j. key_for control (c.requires.named.station j) (c.requires.named.phase j)) in
-    let at : key_place rules.index (key_of control pick) ≡ Some place = ap (key_place rules.index) (sym key) ∙ c.place-place.ensures.place in
+    let at : key_place rules.index (key_of control pick) ≡ Some place = ap (key_place rules.index) (sym key) ∙ c.key_place-place.ensures.place in
     λ before notes count.
     sym c.in-None-late_reason.is ∙ c.late_reason.ensures
     ∙ sym (late_is control rules.index rules.places.now before pick place c.meet-is_met.result c.args.used early at
-    (c.meet-is_met.ensures.before ∙ notes.noted place c.place-place.ensures.within) count)
+    (c.meet-is_met.ensures.before ∙ notes.noted place c.key_place-place.ensures.within) count)

@@ -42,10 +42,10 @@ returns-clause-value c =
     let w0 : c.new-cursor.result.words ≡ words = ap (λ (r : Reading). r.words) c.new-cursor.ensures in
     let w1 : c.read_head.new.cursor.words ≡ words = ap (λ (r : Reading). r.words) c.in_ok-head.ensures.moved ∙ w0 in
     let w2 : c.read_picks.new.cursor.words ≡ words = ap (λ (r : Reading). r.words) c.in_ok-picks.ensures.moved ∙ w1 in
-    let w3 : c.read_rows.new.cursor.words ≡ words = ap (λ (r : Reading). r.words) c.in_ok-read_rows.ensures.moved ∙ w2 in
+    let w3 : c.push_rows.new.cursor.words ≡ words = ap (λ (r : Reading). r.words) c.in_ok-push_rows.ensures.moved ∙ w2 in
     let place : c.read_picks.new.cursor.place ≡ first_time words = ap (λ (r : Reading). r.place) c.in_ok-picks.ensures.moved ∙ ap first_time w1 in
     let sound : NoFaultBelow (fault_at words) (first_time words) =
     subst (λ ws. NoFaultBelow (fault_at ws) (first_time words)) w2 (subst (NoFaultBelow (fault_at c.read_picks.new.cursor.words)) place c.in_ok-picks.ensures.sound.sound) in
-    built words c.in_ok-head.head c.in_ok-field.field c.read_rows.new.field (record { picks = c.in_ok-picks.picks })
+    built words c.in_ok-head.head c.in_ok-field.field c.push_rows.new.field (record { picks = c.in_ok-picks.picks })
     (subst (λ ws. IsHead ws c.in_ok-head.head) w0 c.in_ok-head.ensures.head) (c.in_ok-picks.ensures.picks ∙ ap picks_of w1) sound
-    (c.in_ok-field.ensures ∙ ap (λ (r : List NodeBox). record { grid = c.in_ok-head.head.grid; roots = r; rows = [] }) c.in_ok-roots.ensures.value) (c.in_ok-read_rows.ensures.rows ∙ ap (λ ws. record c.in_ok-field.field { rows = rows_in ws }) w2) (subst IsProblemFile w3 c.in_ok-end.ensures.whole)
+    (c.in_ok-field.ensures ∙ ap (λ (r : List NodeBox). record { grid = c.in_ok-head.head.grid; roots = r; rows = [] }) c.in_ok-roots.ensures.value) (c.in_ok-push_rows.ensures.rows ∙ ap (λ ws. record c.in_ok-field.field { rows = rows_in ws }) w2) (subst IsProblemFile w3 c.in_ok-end.ensures.whole)

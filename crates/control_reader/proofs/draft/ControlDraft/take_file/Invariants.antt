@@ -1,7 +1,7 @@
 use Rattle.std.proofs.Common.{length}
 use Rattle.edt_text.specs.LineCursor.{lines_left}
 use Rattle.control_reader.proofs.FileSteps.{TakesFile}
-use Rattle.control_reader.proofs.draft.Draft.take_file.Given as goal
+use Rattle.control_reader.proofs.draft.ControlDraft.take_file.Given as goal
 
 abbrev pub invariant-loop-line : goal.invariant-loop-line
 invariant-loop-line l = TakesFile l.file l.bytes l.lines l.fn.self l.self

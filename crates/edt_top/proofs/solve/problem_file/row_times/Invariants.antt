@@ -4,7 +4,7 @@ use Rattle.node_boxes.specs.declared.limits.TheConstants.{GREATEST_TIME}
 use Rattle.edt_top.specs.Solve.ProblemFile.{first_time, nodes_in}
 use Rattle.edt_top.specs.Inside.ProblemCursor.{IsSound}
 use Rattle.edt_top.specs.Solve.ProblemValues.{time_in}
-use Rattle.edt_top.proofs.solve.problem_file.read_row.Given as goal
+use Rattle.edt_top.proofs.solve.problem_file.row_times.Given as goal
 
 abbrev pub invariant-loop-node : goal.invariant-loop-node
 invariant-loop-node l = record {

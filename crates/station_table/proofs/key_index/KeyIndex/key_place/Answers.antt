@@ -4,7 +4,7 @@ use Rattle.station_table.specs.Keys.{same_key, key_place}
 use Rattle.station_table.specs.Inside.KeyWords.{as_key}
 use Rattle.station_table.specs.declared.key_words.KeyWords.{KeyWords}
 use Rattle.station_table.proofs.KeyLaws.{any_of_map, position_of_map}
-use Rattle.station_table.proofs.key_index.KeyIndex.place.Goals as goal
+use Rattle.station_table.proofs.key_index.KeyIndex.key_place.Goals as goal
 
 pub unreachable-requires : goal.unreachable-requires
 unreachable-requires c =

@@ -3,7 +3,7 @@ use Rattle.std.specs.List.{range_with_len}
 use Rattle.edt_top.specs.Solve.ProblemFile.{first_time, nodes_in}
 use Rattle.edt_top.specs.Inside.ProblemCursor.{IsSound}
 use Rattle.edt_top.specs.Solve.ProblemValues.{row_in}
-use Rattle.edt_top.proofs.solve.problem_file.read_rows.Given as goal
+use Rattle.edt_top.proofs.solve.problem_file.push_rows.Given as goal
 
 abbrev pub invariant-loop-row : goal.invariant-loop-row
 invariant-loop-row l = record {

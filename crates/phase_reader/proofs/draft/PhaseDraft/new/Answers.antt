@@ -1,6 +1,6 @@
 use Rattle.std.proofs.Common.{refl}
 use Rattle.phase_reader.specs.PhaseEvents.{closed_lines, open_lines}
-use Rattle.phase_reader.proofs.draft.Draft.new.Goals as goal
+use Rattle.phase_reader.proofs.draft.PhaseDraft.new.Goals as goal
 
 pub returns-clause-follows : goal.returns-clause-follows
 unfolding closed_lines open_lines

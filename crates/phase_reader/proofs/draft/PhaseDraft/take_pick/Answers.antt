@@ -1,7 +1,7 @@
 use Rattle.std.proofs.Common.{refl, sym, ◌∙◌}
 use Rattle.phase_reader.proofs.LimitSteps.{limits_pick}
-use Rattle.phase_reader.proofs.draft.Draft.take_pick.Goals.{in-Ok, in-Err}
-use Rattle.phase_reader.proofs.draft.Draft.take_pick.Goals as goal
+use Rattle.phase_reader.proofs.draft.PhaseDraft.take_pick.Goals.{in-Ok, in-Err}
+use Rattle.phase_reader.proofs.draft.PhaseDraft.take_pick.Goals as goal
 
 pub returns-clause-limits : goal.returns-clause-limits
 returns-clause-limits c =

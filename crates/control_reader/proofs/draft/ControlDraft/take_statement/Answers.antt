@@ -5,7 +5,7 @@ use Rattle.edt_text.specs.PlacedWords.{placed_words}
 use Rattle.control_reader.specs.Keywords.{least_of}
 use Rattle.control_reader.specs.Inside.Said.{Said, said_of}
 use Rattle.control_reader.proofs.StatementFaults.{MayStand, fault_nested, fault_not_yet, fault_repeated, fault_few, fault_words, fault_limit, fault_none}
-use Rattle.control_reader.proofs.draft.Draft.take_statement.Goals as goal
+use Rattle.control_reader.proofs.draft.ControlDraft.take_statement.Goals as goal
 
 pub returns-then-is_nested-clause-fault : goal.returns-then-is_nested-clause-fault
 returns-then-is_nested-clause-fault c =

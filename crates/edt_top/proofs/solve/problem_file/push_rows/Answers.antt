@@ -7,7 +7,7 @@ use Rattle.edt_score.specs.Field.{FieldTimes}
 use Rattle.edt_top.specs.Solve.ProblemFile.{Words, nodes_in, first_time}
 use Rattle.edt_top.specs.Inside.ProblemCursor.{Reading}
 use Rattle.edt_top.specs.Solve.ProblemValues.{time_in, row_in}
-use Rattle.edt_top.proofs.solve.problem_file.read_rows.Goals as goal
+use Rattle.edt_top.proofs.solve.problem_file.push_rows.Goals as goal
 
 -- one more row
 one_more : (words : Words) (r : Reading) (k row : ℕ) (grid : GridSize) (roots : List NodeBox) (field more : FieldTimes) (times : List ℕ)

@@ -9,7 +9,7 @@ use Rattle.edt_top.specs.Inside.ProblemCursor.{Reading}
 use Rattle.edt_top.specs.Solve.ProblemValues.{time_in}
 use Rattle.edt_top.proofs.SolveLaws.ProblemSteps.{moved_to}
 use Rattle.edt_top.proofs.SolveLaws.ProblemForms.{form_of_time}
-use Rattle.edt_top.proofs.solve.problem_file.read_row.Goals as goal
+use Rattle.edt_top.proofs.solve.problem_file.row_times.Goals as goal
 
 -- a node of a row stands before the end of the rows
 within : (picks nodes row node : ℕ) → row < picks → node < nodes → row * nodes + node < picks * nodes

@@ -11,7 +11,7 @@ use Rattle.phase_reader.specs.PhaseEvents.{event_lines, open_lines, passes_limit
 use Rattle.phase_reader.proofs.ListLaws.{ok_is, both_ok}
 use Rattle.phase_reader.proofs.DraftSteps.{follows_blank, follows_comment, follows_passed, follows_pick, limit_follows}
 use Rattle.phase_reader.proofs.FaultSteps.{kind_by_words, fault_kind, fault_few, fault_words, fault_limit, fault_none}
-use Rattle.phase_reader.proofs.draft.Draft.take_line.Goals as goal
+use Rattle.phase_reader.proofs.draft.PhaseDraft.take_line.Goals as goal
 
 pub returns-then-not-has-clause-fault : goal.returns-then-not-has-clause-fault
 returns-then-not-has-clause-fault c =

@@ -1,7 +1,7 @@
 use Rattle.std.proofs.Common.{◌∙◌, ap}
 use Rattle.control_reader.specs.Inside.Said.{Said, said_of, control_line}
 use Rattle.control_reader.proofs.LineSteps.{follows_line, fault_follows, includes_line, passed_line, outer_line}
-use Rattle.control_reader.proofs.draft.Draft.take_line.Goals as goal
+use Rattle.control_reader.proofs.draft.ControlDraft.take_line.Goals as goal
 
 pub returns-in-Ok-clause-follows : goal.returns-in-Ok-clause-follows
 returns-in-Ok-clause-follows c = λ before follows.

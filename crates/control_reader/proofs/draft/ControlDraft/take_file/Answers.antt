@@ -2,7 +2,7 @@ use Rattle.std.proofs.Common.{◌≡◌, ◌+◌, ◌∙◌, ap, arith}
 use Rattle.std.specs.Prelude.{if◌then◌else◌}
 use Rattle.std.proofs.lemmas.Result.{err_from_is_err_and}
 use Rattle.control_reader.proofs.FileSteps.{takes_next, takes_fault, takes_all, takes_room}
-use Rattle.control_reader.proofs.draft.Draft.take_file.Goals as goal
+use Rattle.control_reader.proofs.draft.ControlDraft.take_file.Goals as goal
 
 pub take_line-requires-clause-room : goal.take_line-requires-clause-room
 take_line-requires-clause-room c =

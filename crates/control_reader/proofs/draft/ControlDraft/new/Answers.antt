@@ -1,7 +1,7 @@
 use Rattle.std.proofs.Common.{refl, arith}
 use Rattle.control_reader.specs.ControlLines.{statement_with, statements_with}
 use Rattle.control_reader.specs.Inside.Said.{said_in}
-use Rattle.control_reader.proofs.draft.Draft.new.Goals as goal
+use Rattle.control_reader.proofs.draft.ControlDraft.new.Goals as goal
 
 pub returns-clause-follows : goal.returns-clause-follows
 unfolding said_in statement_with statements_with
