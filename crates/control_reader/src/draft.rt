@@ -73,13 +73,16 @@ impl ControlDraft {
     ) -> Result<(), ControlFault>
         requires within { IsWithin (said_of self.old) }
         requires room { self.old.passed < 2 ^ 32 - 1 }
-        ensures follows { OnOk result ((before : List ControlLine) → Follows before self.old → Follows (before ++ control_line file line.entry ∷ []) self.new) }
+        ensures follows { OnOk result ((before : List ControlLine) → Follows before self.old
+            → Follows (before ++ control_line file line.entry ∷ []) self.new) }
         ensures limits { OnOk result (IsWithin (said_of self.new)) }
-        ensures includes { OnOk result (self.new.includes ≡ (if is_include (control_line file line.entry) then self.old.includes + 1 else self.old.includes)) }
+        ensures includes { OnOk result (self.new.includes
+            ≡ (if is_include (control_line file line.entry) then self.old.includes + 1 else self.old.includes)) }
         ensures nested { OnOk result (0 < file → is_include (control_line file line.entry) ≡ false) }
         ensures room { OnOk result (self.new.passed ≤ self.old.passed + 1) }
         ensures place { IfErr result (λ fault. (fault.file ≡ file) × (fault.line ≡ line.entry.number)) }
-        ensures fault { IfErr result (λ fault. fault.cause ≢ ControlCause.Memory → (before : List ControlLine) → Follows before self.old → fault_after before (control_line file line.entry) ≡ Some fault.cause) }
+        ensures fault { IfErr result (λ fault. fault.cause ≢ ControlCause.Memory → (before : List ControlLine)
+            → Follows before self.old → fault_after before (control_line file line.entry) ≡ Some fault.cause) }
     {
         match self.take_bytes(alloc, file, line.bytes) {
             Ok(()) => Ok(()),
@@ -102,11 +105,13 @@ impl ControlDraft {
         requires included { 0 < file }
         requires size { length bytes.now ≤ 1048576 }
         requires room { self.old.passed ≤ 2 ^ 31 }
-        ensures follows { OnOk result ((before : List ControlLine) → Follows before self.old → Follows (before ++ file_lines file bytes.now) self.new) }
+        ensures follows { OnOk result ((before : List ControlLine) → Follows before self.old
+            → Follows (before ++ file_lines file bytes.now) self.new) }
         ensures limits { OnOk result (IsWithin (said_of self.new)) }
         ensures includes { OnOk result (self.new.includes ≡ self.old.includes) }
         ensures room { OnOk result (self.new.passed ≤ self.old.passed + 1048577) }
-        ensures fault { IfErr result (λ fault. fault.cause ≢ ControlCause.Memory → (before rest : List ControlLine) → Follows before self.old → IsFaultOf (before ++ file_lines file bytes.now ++ rest) fault) }
+        ensures fault { IfErr result (λ fault. fault.cause ≢ ControlCause.Memory → (before rest : List ControlLine)
+            → Follows before self.old → IsFaultOf (before ++ file_lines file bytes.now ++ rest) fault) }
     {
         let mut lines = Lines::new(bytes);
         while let Some(line) = lines.next() {

@@ -20,11 +20,14 @@ pub(crate) fn take_name(
 ) -> Result<(), ControlCause>
     requires few { vec_len names.old ≤ 16 }
     requires files { All (λ name. IsTrue (is_name 255 name)) names.old.items }
-    ensures value { OnOk result ((number : ℕ) → names.new.items ≡ names.old.items ++ names_in (record { file = 0; number = number; bytes = line.now })) }
-    ensures good { OnOk result ((number : ℕ) → name_fault_by (vec_len names.old) (record { file = 0; number = number; bytes = line.now }) ≡ None) }
+    ensures value { OnOk result ((number : ℕ)
+        → names.new.items ≡ names.old.items ++ names_in (record { file = 0; number = number; bytes = line.now })) }
+    ensures good { OnOk result ((number : ℕ)
+        → name_fault_by (vec_len names.old) (record { file = 0; number = number; bytes = line.now }) ≡ None) }
     ensures few { OnOk result (vec_len names.new ≤ 16) }
     ensures files { OnOk result (All (λ name. IsTrue (is_name 255 name)) names.new.items) }
-    ensures fault { IfErr result (λ cause. cause ≢ ControlCause.Memory → (number : ℕ) → name_fault_by (vec_len names.old) (record { file = 0; number = number; bytes = line.now }) ≡ Some cause) }
+    ensures fault { IfErr result (λ cause. cause ≢ ControlCause.Memory → (number : ℕ)
+        → name_fault_by (vec_len names.old) (record { file = 0; number = number; bytes = line.now }) ≡ Some cause) }
 {
     let (kind, words) = split_line(line);
     if !kind.includes_file() {

@@ -60,7 +60,8 @@ pub fn read_control(
     requires sizes { All (λ file. vec_len file ≤ 1048576) included.now }
     ensures value { IfOk result (IsReading main.now (map (λ file. file.items) included.now)) }
     ensures limits { IfOk result IsControl }
-    ensures fault { IfErr result (λ fault. fault.cause ≢ ControlCause.Memory → IsControlFault main.now (map (λ file. file.items) included.now) fault) }
+    ensures fault { IfErr result (λ fault. fault.cause ≢ ControlCause.Memory
+        → IsControlFault main.now (map (λ file. file.items) included.now) fault) }
 {
     let draft = read_lines(alloc, main, included)?;
     draft.finish()
@@ -71,9 +72,11 @@ fn read_lines(alloc: Global, main: &[u8], included: &[Vec<u8>]) -> Result<Contro
     requires main { length main.now ≤ 1048576 }
     requires files { length included.now ≡ include_count main.now }
     requires sizes { All (λ file. vec_len file ≤ 1048576) included.now }
-    ensures follows { IfOk result (λ draft. Follows (control_lines main.now (map (λ file. file.items) included.now)) draft) }
+    ensures follows { IfOk result (λ draft. Follows
+        (control_lines main.now (map (λ file. file.items) included.now)) draft) }
     ensures limits { IfOk result (λ draft. IsWithin (said_of draft)) }
-    ensures fault { IfErr result (λ fault. fault.cause ≢ ControlCause.Memory → IsControlFault main.now (map (λ file. file.items) included.now) fault) }
+    ensures fault { IfErr result (λ fault. fault.cause ≢ ControlCause.Memory
+        → IsControlFault main.now (map (λ file. file.items) included.now) fault) }
 {
     let mut draft = ControlDraft::new(alloc);
     let mut lines = Lines::new(main);

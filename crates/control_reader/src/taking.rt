@@ -34,10 +34,15 @@ impl ControlDraft {
     ) -> Result<(), ControlCause>
         requires within { IsWithin (said_of self.old) }
         requires room { self.old.passed < 2 ^ 32 - 1 }
-        ensures value { OnOk result ((number : ℕ) → said_of self.new ≡ with_line (record { file = file; number = number; bytes = line.now }) (said_of self.old)) }
-        ensures good { OnOk result ((number : ℕ) → fault_by (said_of self.old) (record { file = file; number = number; bytes = line.now }) ≡ None) }
+        ensures value { OnOk result ((number : ℕ)
+            → said_of self.new ≡ with_line (record { file = file; number = number; bytes = line.now })
+            (said_of self.old)) }
+        ensures good { OnOk result ((number : ℕ)
+            → fault_by (said_of self.old) (record { file = file; number = number; bytes = line.now }) ≡ None) }
         ensures limits { OnOk result (IsWithin (said_of self.new)) }
-        ensures fault { IfErr result (λ cause. cause ≢ ControlCause.Memory → (number : ℕ) → fault_by (said_of self.old) (record { file = file; number = number; bytes = line.now }) ≡ Some cause) }
+        ensures fault { IfErr result (λ cause. cause ≢ ControlCause.Memory → (number : ℕ)
+            → fault_by (said_of self.old) (record { file = file; number = number; bytes = line.now })
+            ≡ Some cause) }
     {
         if line.len() > LONGEST_LINE {
             return Err(ControlCause::LongLine);
@@ -65,10 +70,13 @@ impl ControlDraft {
         arguments: &PlacedWords,
     ) -> Result<(), ControlCause>
         requires { IsWithin (said_of self.old) }
-        ensures value { OnOk result (said_of self.new ≡ with_statement statement (placed_words arguments.now) (said_of self.old)) }
-        ensures good { OnOk result (statement_fault_by (said_of self.old) file statement (placed_words arguments.now) ≡ None) }
+        ensures value { OnOk result (said_of self.new
+            ≡ with_statement statement (placed_words arguments.now) (said_of self.old)) }
+        ensures good { OnOk result (statement_fault_by (said_of self.old) file statement
+            (placed_words arguments.now) ≡ None) }
         ensures limits { OnOk result (IsWithin (said_of self.new)) }
-        ensures fault { IfErr result (λ cause. cause ≢ ControlCause.Memory → statement_fault_by (said_of self.old) file statement (placed_words arguments.now) ≡ Some cause) }
+        ensures fault { IfErr result (λ cause. cause ≢ ControlCause.Memory
+            → statement_fault_by (said_of self.old) file statement (placed_words arguments.now) ≡ Some cause) }
     {
         if statement.is_nested(file) {
             return Err(ControlCause::NestedInclude);
@@ -117,10 +125,12 @@ impl ControlDraft {
     ) -> Result<(), ControlCause>
         requires enough { least_of statement ≤ length (placed_words arguments.now) }
         requires within { IsWithin (said_of self.old) }
-        ensures value { OnOk result (said_of self.new ≡ with_statement statement (placed_words arguments.now) (said_of self.old)) }
+        ensures value { OnOk result (said_of self.new
+            ≡ with_statement statement (placed_words arguments.now) (said_of self.old)) }
         ensures good { OnOk result (fault_in_words statement (placed_words arguments.now) ≡ None) }
         ensures limits { OnOk result (self.new.includes ≤ 16 → IsWithin (said_of self.new)) }
-        ensures fault { IfErr result (λ cause. cause ≢ ControlCause.Memory → fault_in_words statement (placed_words arguments.now) ≡ Some cause) }
+        ensures fault { IfErr result (λ cause. cause ≢ ControlCause.Memory
+            → fault_in_words statement (placed_words arguments.now) ≡ Some cause) }
     {
         match statement {
             Statement::Locfiles => put(&mut self.files, read_files(alloc, arguments)),

@@ -158,7 +158,8 @@ impl Shelf for MemoryShelf {
         ensures lacks { RisesExactly (is_lacking result) self.old.lacks self.new.lacks }
         ensures calls_stay { self.old.calls ≤ self.new.calls }
         ensures one_call { self.new.calls ≤ self.old.calls + 1 }
-        ensures bounded { (self.new.faults < 2 ^ 64) × (self.new.misses < 2 ^ 64) × (self.new.lacks < 2 ^ 64) × (self.new.calls < 2 ^ 64) }
+        ensures bounded { (self.new.faults < 2 ^ 64) × (self.new.misses < 2 ^ 64) × (self.new.lacks < 2 ^ 64)
+            × (self.new.calls < 2 ^ 64) }
 
         // Beyond what every shelf does.
         ensures fails { IsErrOf result HasFault.Failed ↔ Contains self.old.failing self.new.calls }
@@ -190,7 +191,8 @@ impl Shelf for MemoryShelf {
         ensures lacks { self.new.lacks ≡ self.old.lacks }
         ensures calls_stay { self.old.calls ≤ self.new.calls }
         ensures one_call { self.new.calls ≤ self.old.calls + 1 }
-        ensures bounded { (self.new.faults < 2 ^ 64) × (self.new.misses < 2 ^ 64) × (self.new.lacks < 2 ^ 64) × (self.new.calls < 2 ^ 64) }
+        ensures bounded { (self.new.faults < 2 ^ 64) × (self.new.misses < 2 ^ 64) × (self.new.lacks < 2 ^ 64)
+            × (self.new.calls < 2 ^ 64) }
 
         // Beyond what every shelf does.
         ensures fails { IsErrOf result OpenFault.Failed ↔ Contains self.old.failing self.new.calls }
@@ -227,7 +229,8 @@ impl Shelf for MemoryShelf {
         ensures lacks { self.new.lacks ≡ self.old.lacks }
         ensures calls_stay { self.old.calls ≤ self.new.calls }
         ensures one_call { self.new.calls ≤ self.old.calls + 1 }
-        ensures bounded { (self.new.faults < 2 ^ 64) × (self.new.misses < 2 ^ 64) × (self.new.lacks < 2 ^ 64) × (self.new.calls < 2 ^ 64) }
+        ensures bounded { (self.new.faults < 2 ^ 64) × (self.new.misses < 2 ^ 64) × (self.new.lacks < 2 ^ 64)
+            × (self.new.calls < 2 ^ 64) }
 
         // Beyond what every shelf does.
         ensures fails { IsErr result ↔ Contains self.old.failing self.new.calls }

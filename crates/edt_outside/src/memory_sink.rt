@@ -46,7 +46,8 @@ impl MemorySink {
         failing: Vec<u64>,
     ) -> Result<MemorySink, AllocError>
         requires { 1 ≤ piece }
-        ensures { IfOk result (λ sink. sink ≡ record { taken = []; room = room; piece = piece; failing = failing.items; writes = 0; faults = 0 }) }
+        ensures { IfOk result (λ sink. sink
+            ≡ record { taken = []; room = room; piece = piece; failing = failing.items; writes = 0; faults = 0 }) }
     {
         Ok(MemorySink {
             bytes: Vec::with_capacity(alloc, room)?,
@@ -84,7 +85,8 @@ impl Sink for MemorySink {
 
         // Beyond what every sink does.
         ensures fails { IsErr result ↔ Contains self.old.failing self.new.writes }
-        ensures count { IfOk result (λ n. n ≡ min (min self.old.piece (self.old.room - length self.old.taken)) (length piece.now)) }
+        ensures count { IfOk result (λ n. n
+            ≡ min (min self.old.piece (self.old.room - length self.old.taken)) (length piece.now)) }
         ensures state { self.new ≡ record self.old {
           taken = self.old.taken ++ take (result_unwrap_or result 0) piece.now;
           writes = one_more self.old.writes;

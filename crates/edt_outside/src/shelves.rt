@@ -38,7 +38,8 @@ pub trait Shelf {
         ensures lacks { RisesExactly (is_lacking result) (lacks self.old) (lacks self.new) }
         ensures calls_stay { calls self.old ≤ calls self.new }
         ensures one_call { calls self.new ≤ calls self.old + 1 }
-        ensures bounded { (faults self.new < 2 ^ 64) × (misses self.new < 2 ^ 64) × (lacks self.new < 2 ^ 64) × (calls self.new < 2 ^ 64) };
+        ensures bounded { (faults self.new < 2 ^ 64) × (misses self.new < 2 ^ 64) × (lacks self.new < 2 ^ 64)
+            × (calls self.new < 2 ^ 64) };
 
     /// Opens the file of this name, in place of the one that was open. After a refusal no file is
     /// open.
@@ -51,7 +52,8 @@ pub trait Shelf {
         ensures lacks { lacks self.new ≡ lacks self.old }
         ensures calls_stay { calls self.old ≤ calls self.new }
         ensures one_call { calls self.new ≤ calls self.old + 1 }
-        ensures bounded { (faults self.new < 2 ^ 64) × (misses self.new < 2 ^ 64) × (lacks self.new < 2 ^ 64) × (calls self.new < 2 ^ 64) };
+        ensures bounded { (faults self.new < 2 ^ 64) × (misses self.new < 2 ^ 64) × (lacks self.new < 2 ^ 64)
+            × (calls self.new < 2 ^ 64) };
 
     /// Reads some of the unread bytes of the open file into the front of `into`, and answers how
     /// many. Into a nonempty slice that is 0 only at the file's end, or where no file is open. A
@@ -66,5 +68,6 @@ pub trait Shelf {
         ensures lacks { lacks self.new ≡ lacks self.old }
         ensures calls_stay { calls self.old ≤ calls self.new }
         ensures one_call { calls self.new ≤ calls self.old + 1 }
-        ensures bounded { (faults self.new < 2 ^ 64) × (misses self.new < 2 ^ 64) × (lacks self.new < 2 ^ 64) × (calls self.new < 2 ^ 64) };
+        ensures bounded { (faults self.new < 2 ^ 64) × (misses self.new < 2 ^ 64) × (lacks self.new < 2 ^ 64)
+            × (calls self.new < 2 ^ 64) };
 }

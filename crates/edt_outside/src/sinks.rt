@@ -23,7 +23,8 @@ pub trait Sink {
         ensures kept { OnErr result (taken self.new ≡ taken self.old) }
         ensures faults_stay { faults self.old ≤ faults self.new }
         ensures failed { OnErr result (Rose (faults self.old) (faults self.new)) }
-        ensures took_nothing { IfOk result (λ n. n ≡ 0 → 0 < length piece.now → Rose (faults self.old) (faults self.new)) }
+        ensures took_nothing { IfOk result
+            (λ n. n ≡ 0 → 0 < length piece.now → Rose (faults self.old) (faults self.new)) }
         ensures took_some { IfOk result (λ n. 0 < n → faults self.new ≡ faults self.old) }
         ensures empty_piece { IfOk result (λ _. length piece.now ≡ 0 → faults self.new ≡ faults self.old) }
         ensures bounded { faults self.new < 2 ^ 64 };

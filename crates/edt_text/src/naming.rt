@@ -51,7 +51,8 @@ impl Name {
         ensures form { IfOk result (λ _. IsTrue (is_name 512 bytes.now)) }
         ensures empty { IsErrOf result NameFault.Empty ↔ (bytes.now ≡ []) }
         ensures long { IsErrOf result NameFault.Long ↔ (512 < length bytes.now) }
-        ensures bad_byte { (k : ℕ) → IsErrOf result (NameFault.BadByte k) ↔ ((length bytes.now ≤ 512) × (position (λ b. not (is_name_byte b)) bytes.now ≡ Some k)) }
+        ensures bad_byte { (k : ℕ) → IsErrOf result (NameFault.BadByte k) ↔
+            ((length bytes.now ≤ 512) × (position (λ b. not (is_name_byte b)) bytes.now ≡ Some k)) }
         ensures memory { IsErrOf result NameFault.Memory → IsTrue (is_name 512 bytes.now) }
     {
         if bytes.is_empty() {

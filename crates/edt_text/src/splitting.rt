@@ -67,7 +67,8 @@ impl<'a> FileWords<'a> {
 // The first word of bytes, and what stands after it, where line feeds part words as well or not.
 fn first_word(bytes: &[u8], over_lines: bool) -> Option<(&[u8], &[u8])>
     ensures none { IfNone result (runs (parting over_lines) bytes.now ≡ []) }
-    ensures some { IfSome result (λ cut. runs (parting over_lines) bytes.now ≡ cut.0.now ∷ runs (parting over_lines) cut.1.now) }
+    ensures some { IfSome result (λ cut. runs (parting over_lines) bytes.now
+        ≡ cut.0.now ∷ runs (parting over_lines) cut.1.now) }
 {
     let Some(start) = word_start(bytes, over_lines) else {
         return None;

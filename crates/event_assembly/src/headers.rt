@@ -42,7 +42,8 @@ pub(crate) fn read_headers<S: Shelf>(
     ensures lacks_stay { S.lacks shelf.old ≤ S.lacks shelf.new }
     ensures lacks { IfOk result (λ headers.
         RisesExactly (list_any is_none headers.items) (S.lacks shelf.old) (S.lacks shelf.new)) }
-    ensures no_lacks { IfSome (S.files shelf.old) (λ files. lacks_a_header files (values_of control.now) keys.now ≡ false
+    ensures no_lacks { IfSome (S.files shelf.old)
+        (λ files. lacks_a_header files (values_of control.now) keys.now ≡ false
         → S.lacks shelf.new ≡ S.lacks shelf.old) }
     ensures calls { S.calls shelf.old ≤ S.calls shelf.new }
 {

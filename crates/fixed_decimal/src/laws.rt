@@ -6,7 +6,8 @@ ghost use Rattle.fixed_decimal.specs.Value.{millionths_of};
 
 /// A text leaves the form of a decimal at one place at most, and then it has no reading.
 pub fn one_fault()
-    ensures { (text : List ℕ) (j k : ℕ) → LeavesFormAt text j → (millionths_of text ≡ None) × (LeavesFormAt text k → j ≡ k) }
+    ensures { (text : List ℕ) (j k : ℕ) → LeavesFormAt text j → (millionths_of text ≡ None)
+        × (LeavesFormAt text k → j ≡ k) }
 {}
 
 /// One whole number alone is nearest to a fraction.

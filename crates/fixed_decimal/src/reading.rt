@@ -45,8 +45,10 @@ pub fn read_millionths(text: &[u8]) -> Result<i64, DecimalError>
     ensures small { IfOk result (λ x. unsigned_abs x < 10 ^ 15) }
     ensures none { IfErr result (λ _. millionths_of text.now ≡ None) }
     ensures empty { IsErrOf result DecimalError.Empty ↔ (text.now ≡ []) }
-    ensures bad_byte { (k : ℕ) → IsErrOf result (DecimalError.BadByte k) ↔ ((0 < length text.now) × LeavesFormAt text.now k) }
-    ensures range { IsErrOf result DecimalError.Range ↔ ((has_form text.now ≡ true) × (is_out_of_range text.now ≡ true)) }
+    ensures bad_byte { (k : ℕ) → IsErrOf result (DecimalError.BadByte k) ↔
+        ((0 < length text.now) × LeavesFormAt text.now k) }
+    ensures range { IsErrOf result DecimalError.Range ↔
+        ((has_form text.now ≡ true) × (is_out_of_range text.now ≡ true)) }
     ensures whole { IsErrOf result DecimalError.NotWhole → ⊥ }
 {
     match read(text) {
@@ -64,9 +66,12 @@ pub fn read_whole(text: &[u8]) -> Result<i64, DecimalError>
     ensures small { IfOk result (λ x. unsigned_abs x < 10 ^ 9) }
     ensures none { IfErr result (λ _. whole_of text.now ≡ None) }
     ensures empty { IsErrOf result DecimalError.Empty ↔ (text.now ≡ []) }
-    ensures bad_byte { (k : ℕ) → IsErrOf result (DecimalError.BadByte k) ↔ ((0 < length text.now) × LeavesFormAt text.now k) }
-    ensures range { IsErrOf result DecimalError.Range ↔ ((has_form text.now ≡ true) × (is_out_of_range text.now ≡ true)) }
-    ensures not_whole { IsErrOf result DecimalError.NotWhole ↔ ((has_form text.now ≡ true) × (is_out_of_range text.now ≡ false) × (size_of text.now % 1000000 ≢ 0)) }
+    ensures bad_byte { (k : ℕ) → IsErrOf result (DecimalError.BadByte k) ↔
+        ((0 < length text.now) × LeavesFormAt text.now k) }
+    ensures range { IsErrOf result DecimalError.Range ↔
+        ((has_form text.now ≡ true) × (is_out_of_range text.now ≡ true)) }
+    ensures not_whole { IsErrOf result DecimalError.NotWhole ↔
+        ((has_form text.now ≡ true) × (is_out_of_range text.now ≡ false) × (size_of text.now % 1000000 ≢ 0)) }
 {
     match read(text) {
         Ok(rounded) if rounded.size % 1_000_000 == 0 => Ok(with_sign(
@@ -85,8 +90,10 @@ fn read(text: &[u8]) -> Result<Rounded, DecimalError>
     ensures sign { IfOk result (λ r. r.negative ≡ is_negative text.now) }
     ensures none { IfErr result (λ _. (has_form text.now && not (is_out_of_range text.now)) ≡ false) }
     ensures empty { IsErrOf result DecimalError.Empty ↔ (text.now ≡ []) }
-    ensures bad_byte { (k : ℕ) → IsErrOf result (DecimalError.BadByte k) ↔ ((0 < length text.now) × LeavesFormAt text.now k) }
-    ensures range { IsErrOf result DecimalError.Range ↔ ((has_form text.now ≡ true) × (is_out_of_range text.now ≡ true)) }
+    ensures bad_byte { (k : ℕ) → IsErrOf result (DecimalError.BadByte k) ↔
+        ((0 < length text.now) × LeavesFormAt text.now k) }
+    ensures range { IsErrOf result DecimalError.Range ↔
+        ((has_form text.now ≡ true) × (is_out_of_range text.now ≡ true)) }
     ensures whole { IsErrOf result DecimalError.NotWhole → ⊥ }
 {
     if text.is_empty() {

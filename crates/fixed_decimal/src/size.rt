@@ -141,7 +141,8 @@ fn rounded(digits: u128, raised_by: u32, lowered_by: u32) -> Option<u64>
     requires digits_few { digits < 10 ^ 30 }
     requires raised_few { raised_by ≤ 36 }
     requires lowered_few { lowered_by ≤ 60 }
-    ensures value { let size = nearest (digits * 10 ^ raised_by) (10 ^ lowered_by) in result ≡ (if nat_le (10 ^ 15) size then None else Some size) }
+    ensures value { let size = nearest (digits * 10 ^ raised_by) (10 ^ lowered_by) in result
+        ≡ (if nat_le (10 ^ 15) size then None else Some size) }
     ensures small { IfSome result (λ size. size < 10 ^ 15) }
 {
     if raised_by < lowered_by {

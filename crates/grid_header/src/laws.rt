@@ -8,5 +8,6 @@ ghost use Rattle.grid_header.specs.Reading.{IsReading};
 /// A header that has a reading has one alone, and no cause to be refused.
 pub fn reading_excludes_fault()
     ensures reading { (bytes : List ℕ) (g h : Header) → IsReading bytes g → IsReading bytes h → g ≡ h }
-    ensures fault { (bytes : List ℕ) (h : Header) (cause : HeaderError) → IsReading bytes h → cause_of bytes ≢ Some cause }
+    ensures fault { (bytes : List ℕ) (h : Header) (cause : HeaderError) → IsReading bytes h
+        → cause_of bytes ≢ Some cause }
 {}

@@ -59,9 +59,12 @@ impl PhaseDraft {
         requires { self.old.passed < number }
         ensures room { self.new.passed ≤ number }
         ensures limits { IsDraft self.old → OnOk result (IsDraft self.new) }
-        ensures follows { OnOk result ((before : List NumberedLine) → Follows before self.old → Follows (before ++ (number, line.now) ∷ []) self.new) }
-        ensures good { OnOk result ((before : List NumberedLine) → Follows before self.old → fault_after before (number, line.now) ≡ None) }
-        ensures fault { IfErr result (λ cause. cause ≢ PhaseCause.Memory → (before : List NumberedLine) → Follows before self.old → fault_after before (number, line.now) ≡ Some cause) }
+        ensures follows { OnOk result ((before : List NumberedLine) → Follows before self.old
+            → Follows (before ++ (number, line.now) ∷ []) self.new) }
+        ensures good { OnOk result ((before : List NumberedLine) → Follows before self.old
+            → fault_after before (number, line.now) ≡ None) }
+        ensures fault { IfErr result (λ cause. cause ≢ PhaseCause.Memory → (before : List NumberedLine)
+            → Follows before self.old → fault_after before (number, line.now) ≡ Some cause) }
     {
         if line.len() > LONGEST_LINE {
             return Err(PhaseCause::LongLine);
@@ -88,7 +91,8 @@ impl PhaseDraft {
     /// The phase file of the lines that were taken.
     pub(crate) fn finish(mut self, alloc: Global) -> Result<Phases, PhaseCause>
         ensures memory { IfErr result (λ cause. cause ≡ PhaseCause.Memory) }
-        ensures events { IfOk result (λ phases. picks_of_events phases.events.items ≡ picks_of_events self.events.items ++ as_event self.picks.items) }
+        ensures events { IfOk result (λ phases. picks_of_events phases.events.items
+            ≡ picks_of_events self.events.items ++ as_event self.picks.items) }
         ensures passed { IfOk result (λ phases. phases.passed ≡ self.passed) }
         ensures limits { IsDraft self → IfOk result (λ phases. All IsEvent phases.events.items) }
         ensures few { IsDraft self → IfOk result (λ phases. vec_len phases.events ≤ 10000) }
@@ -103,7 +107,8 @@ impl PhaseDraft {
     // Makes an event of the picks, if there are any.
     fn end_event(&mut self, alloc: Global) -> Result<(), PhaseCause>
         ensures memory { IfErr result (λ cause. cause ≡ PhaseCause.Memory) }
-        ensures events { OnOk result (picks_of_events self.new.events.items ≡ picks_of_events self.old.events.items ++ as_event self.old.picks.items) }
+        ensures events { OnOk result (picks_of_events self.new.events.items
+            ≡ picks_of_events self.old.events.items ++ as_event self.old.picks.items) }
         ensures picks { OnOk result (self.new.picks.items ≡ []) }
         ensures passed { self.new.passed ≡ self.old.passed }
         ensures limits { IsDraft self.old → OnOk result (IsDraft self.new) }
@@ -124,8 +129,10 @@ impl PhaseDraft {
         ensures passed { self.new.passed ≡ self.old.passed }
         ensures picks { OnOk result (self.new.picks.items ≡ self.old.picks.items ++ pick ∷ []) }
         ensures limits { IsDraft self.old → IsPick pick → OnOk result (IsDraft self.new) }
-        ensures good { OnOk result (passes_limit (length self.old.events.items) self.old.picks.items pick.time ≡ false) }
-        ensures fault { IfErr result (λ cause. cause ≢ PhaseCause.Memory → (cause ≡ PhaseCause.Limit) × IsTrue (passes_limit (length self.old.events.items) self.old.picks.items pick.time)) }
+        ensures good { OnOk result (passes_limit (length self.old.events.items) self.old.picks.items pick.time
+            ≡ false) }
+        ensures fault { IfErr result (λ cause. cause ≢ PhaseCause.Memory → (cause ≡ PhaseCause.Limit)
+            × IsTrue (passes_limit (length self.old.events.items) self.old.picks.items pick.time)) }
     {
         if self.is_past_limit(&pick) {
             return Err(PhaseCause::Limit);
@@ -179,7 +186,8 @@ fn read_pick(alloc: Global, line: u32, words: &PlacedWords) -> Result<Pick, Phas
 fn read_name(alloc: Global, word: &[u8]) -> Result<Name, PhaseCause>
     ensures name { IfOk result (λ name. name ≡ word.now) }
     ensures good { OnOk result (IsTrue (names.is_name 64 word.now)) }
-    ensures fault { IfErr result (λ cause. cause ≢ PhaseCause.Memory → (cause ≡ PhaseCause.Name) × (names.is_name 64 word.now ≡ false)) }
+    ensures fault { IfErr result (λ cause. cause ≢ PhaseCause.Memory → (cause ≡ PhaseCause.Name)
+        × (names.is_name 64 word.now ≡ false)) }
 {
     if !is_name(word, 64) {
         return Err(PhaseCause::Name);

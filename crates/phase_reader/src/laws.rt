@@ -6,5 +6,6 @@ ghost use Rattle.phase_reader.specs.PhaseFile.{IsReading, IsPhaseFault};
 
 /// No phase file has both a reading and a fault.
 pub fn reading_excludes_fault()
-    ensures { (bytes : List ℕ) (phases : Phases) (fault : PhaseFault) → IsReading bytes phases → IsPhaseFault bytes fault → ⊥ }
+    ensures { (bytes : List ℕ) (phases : Phases) (fault : PhaseFault) → IsReading bytes phases
+        → IsPhaseFault bytes fault → ⊥ }
 {}

@@ -20,6 +20,7 @@ use Rattle.search_lanes.specs.Lanes.{is_finished, is_free}
 use Rattle.search_lanes.specs.LaneViews.{Fits, LanesView}
 use Rattle.search_lanes.specs.Inside.Slots.{boxed, busy, greatest_bound, is_low, lane_of, state_of, view_of}
 use Rattle.search_lanes.specs.Inside.Whole.{IsWhole}
+use Rattle.search_lanes.proofs.LaneOver.{falls_same}
 use Rattle.search_lanes.proofs.LaneEnds.{whole_budget, whole_explored}
 use Rattle.search_lanes.proofs.LaneFits.{fits_judged, upper_seen, IsJudged}
 
@@ -63,8 +64,8 @@ module _ (g : GridSize) (roots : List NodeBox) (margin budget : ℕ) (met : List
 
   pub falls_here : BoundsFall g roots bound
   falls_here =
-      subst (λ s. BoundsFall s roots bound) (fits.same_grid ∙ ap (λ (u : LanesView). u.grid) (sym seen))
-      (subst (λ r. BoundsFall h r bound) (fits.same_roots ∙ ap (λ (u : LanesView). u.roots) (sym seen)) falls)
+      falls_same g h roots rs bound (fits.same_grid ∙ ap (λ (u : LanesView). u.grid) (sym seen))
+      (fits.same_roots ∙ ap (λ (u : LanesView). u.roots) (sym seen)) falls
 
   -- the budget was passed
   pub found_budget : over ≡ true → PassesBudget ≡ outcome_of v.grid v.roots bound v.margin v.budget

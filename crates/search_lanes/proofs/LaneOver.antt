@@ -1,5 +1,5 @@
 -- The greatest bound of all open and held boxes, which never rises, and what it means that the budget was passed.
-use Rattle.std.proofs.Common.{◌≡◌, inl, inr, ℕ, ◌+◌, ◌≤◌, ◌<◌, arith, false, List, [], ◌∷◌, ◌++◌, length, get_or, max, refl, ap, sum_by, Contains, All}
+use Rattle.std.proofs.Common.{◌≡◌, inl, inr, ℕ, ◌+◌, ◌≤◌, ◌<◌, arith, false, List, [], ◌∷◌, ◌++◌, length, get_or, max, refl, ap, sum_by, subst, Contains, All}
 use Rattle.std.specs.Prelude.{nat_lt}
 use Rattle.std.specs.List.{AllByRecursion}
 use Rattle.std.specs.List.Sorted.{IsPermutation}
@@ -12,6 +12,7 @@ use Rattle.node_boxes.specs.Grid.{GridSize}
 use Rattle.node_boxes.specs.Boxes.{IsNonempty, is_single}
 use Rattle.node_boxes.specs.Children.{children_of}
 use Rattle.node_boxes.proofs.Lists.{first_or_rest}
+use Rattle.edt_score.specs.Judging.{BoundsFall}
 use Rattle.octree_search.specs.declared.arena.Met.{Met}
 use Rattle.octree_search.specs.declared.queue.Waiting.{Waiting}
 use Rattle.octree_search.specs.Cover.{below, boxes_met, stops, threshold_of}
@@ -22,6 +23,12 @@ use Rattle.octree_search.proofs.Goes.{sum_ones}
 use Rattle.octree_search.proofs.Thresholds.{threshold_up}
 use Rattle.search_lanes.specs.Inside.Bags.{left_below, AllOpened, IsBagOf}
 use Rattle.search_lanes.specs.Inside.Slots.{greatest_bound, is_low, waits_from}
+
+-- bounds that fall in one octree fall in the same octree by another name
+pub falls_same : (g h : GridSize) (roots rs : List NodeBox) (bound : NodeBox → ℕ) → h ≡ g → rs ≡ roots → BoundsFall h rs bound
+    → BoundsFall g roots bound
+falls_same g h roots rs bound same_grid same_roots falls =
+    subst (λ s. BoundsFall s roots bound) same_grid (subst (λ r. BoundsFall h r bound) same_roots falls)
 
 -- a sum is at least each of its terms
 pub term_le : {X : Type 0} (f : X → ℕ) (xs : List X) (x : X) → Contains xs x → f x ≤ sum_by f xs

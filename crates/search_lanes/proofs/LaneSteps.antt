@@ -32,7 +32,7 @@ use Rattle.search_lanes.proofs.LaneBags.{bag_moved, bag_opened}
 use Rattle.search_lanes.proofs.LaneBoxes.{children_move, done_moves, lose_moves, take_moves}
 use Rattle.search_lanes.proofs.LaneFits.{IsJudged, children_fall, fits_judged, judged_fits, judged_moved, judged_opened}
 use Rattle.search_lanes.proofs.OpenedBoxes.{all_at}
-use Rattle.search_lanes.proofs.LaneOver.{all_under, greatest_append, greatest_permuted, ready_box, ready_still, upper_falls, upper_stays}
+use Rattle.search_lanes.proofs.LaneOver.{all_under, falls_same, greatest_append, greatest_permuted, ready_box, ready_still, upper_falls, upper_stays}
 use Rattle.search_lanes.proofs.LaneSlots.{all_set, held_there, map_remove, ready_is, waits_boxed}
 
 -- a step that is known of what is kept is one of what is seen
@@ -61,7 +61,7 @@ fits_same h now rs rs' bound bound' v same_grid same_roots same_bounds fits = re
 pub falls_there : (h : GridSize) (rs : List NodeBox) (bound : NodeBox → ℕ) (v : LanesView) → BoundsFall h rs bound → Fits h rs bound v
     → BoundsFall v.grid v.roots bound
 falls_there h rs bound v falls fits =
-    subst (λ (g : GridSize). BoundsFall g v.roots bound) fits.same_grid (subst (λ (r : List NodeBox). BoundsFall h r bound) fits.same_roots falls)
+    falls_same v.grid h v.roots rs bound fits.same_grid fits.same_roots falls
 
 -- the greatest bound, where it was found anew
 pub upper_found : (bound upper m open' held' : ℕ) (boxes : List Waiting) (slots : List Slot) → bound ≡ upper → m ≡ max open' held'

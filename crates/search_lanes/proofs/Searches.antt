@@ -33,6 +33,10 @@ pub record IsSearching (g : GridSize) (roots : List NodeBox) (bound : NodeBox �
   pub long : rank budget s ≤ left
   pub plan : events ++ schedule_from bound margin budget left state s ≡ schedule bound margin budget lanes seed roots
 
+-- lanes that are finished by their own margin are so by that of the search
+pub finished_seen : (v w : LanesView) → v ≡ w → is_finished v.margin v.state ≡ true → is_finished w.margin v.state ≡ true
+finished_seen v w seen over = subst (λ (u : LanesView). is_finished u.margin v.state ≡ true) seen over
+
 -- one more event of a run
 pub run_more : (bound : NodeBox → ℕ) (margin budget : ℕ) (events : List LaneEvent) (s mid end : LaneState) (event : LaneEvent)
     → Run bound margin budget s events mid → step bound margin budget mid event ≡ Some end → Run bound margin budget s (events ++ event ∷ []) end

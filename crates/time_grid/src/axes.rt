@@ -99,7 +99,8 @@ impl Steps {
         requires { AreSteps self.now }
         ensures none { IfNone result ((i : ℕ) × (i < self.now.nodes)
             × ((j : ℕ) → j < self.now.time_nodes → j * self.now.time_spacing ≢ self.now.offset + i * self.now.spacing)) }
-        ensures within { IfSome result (λ p. (i : ℕ) → i < self.now.nodes → p.first + i * p.stride < self.now.time_nodes) }
+        ensures within { IfSome result (λ p. (i : ℕ) → i < self.now.nodes
+            → p.first + i * p.stride < self.now.time_nodes) }
         ensures meets { IfSome result (λ p. (i : ℕ) → i < self.now.nodes
             → (p.first + i * p.stride) * self.now.time_spacing ≡ self.now.offset + i * self.now.spacing) }
         ensures rises { IfSome result (λ p. 1 < self.now.nodes → 1 ≤ p.stride) }
@@ -124,7 +125,8 @@ impl Steps {
         requires { AreSteps self.now }
         ensures none { IfNone result ((1 < self.now.nodes) × ((m : ℕ) → m * self.now.time_spacing ≢ self.now.spacing)) }
         ensures one { IfSome result (λ stride. self.now.nodes ≡ 1 → stride ≡ 0) }
-        ensures many { IfSome result (λ stride. 1 < self.now.nodes → stride * self.now.time_spacing ≡ self.now.spacing) }
+        ensures many { IfSome result (λ stride. 1 < self.now.nodes
+            → stride * self.now.time_spacing ≡ self.now.spacing) }
         ensures bound { IfSome result (λ stride. stride ≤ 10 ^ 9) }
     {
         if self.nodes == 1 {

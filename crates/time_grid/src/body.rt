@@ -29,7 +29,9 @@ pub(crate) fn read_body<S: Shelf>(
     requires room { 4 ≤ length buffer.old }
     requires places { length into.old ≡ node_count (selection_size selection) }
     ensures same_files { S.files shelf.new ≡ S.files shelf.old }
-    ensures told { IfSome (S.files shelf.old) (λ file. ReadsBody order nodes (λ bytes _. AreTaken order selection bytes into.new) (file name.now) result) }
+    ensures told { IfSome (S.files shelf.old)
+        (λ file. ReadsBody order nodes (λ bytes _. AreTaken order selection bytes into.new)
+        (file name.now) result) }
     ensures limit { OnOk result (All IsTime into.new) }
     ensures ended { OnSome (S.files shelf.old) (OnOk result (S.left shelf.new ≡ Some [])) }
     ensures faults { RisesExactly (grid_failed result) (S.faults shelf.old) (S.faults shelf.new) }
@@ -57,7 +59,8 @@ fn read_open<S: Shelf>(
     requires room { 4 ≤ length buffer.old }
     requires places { length into.old ≡ node_count (selection_size selection) }
     ensures same_files { S.files shelf.new ≡ S.files shelf.old }
-    ensures told { IfSome (S.left shelf.old) (λ bytes. ReadsBody order nodes (λ bytes _. AreTaken order selection bytes into.new) (Some bytes) result) }
+    ensures told { IfSome (S.left shelf.old)
+        (λ bytes. ReadsBody order nodes (λ bytes _. AreTaken order selection bytes into.new) (Some bytes) result) }
     ensures limit { OnOk result (All IsTime into.new) }
     ensures ended { OnSome (S.left shelf.old) (OnOk result (S.left shelf.new ≡ Some [])) }
     ensures faults { RisesExactly (grid_failed result) (S.faults shelf.old) (S.faults shelf.new) }
@@ -95,7 +98,8 @@ fn fill<S: Shelf>(shelf: &mut S, buffer: &mut [u8], held: usize) -> Result<usize
     ensures same_files { S.files shelf.new ≡ S.files shelf.old }
     ensures bound { IfOk result (λ n. held + n ≤ length buffer.old) }
     ensures kept { (i : ℕ) → i < held → slice_index buffer.new i ≡ slice_index buffer.old i }
-    ensures told { IfOk result (λ n. IfSome (S.left shelf.old) (λ unread. IsAfter unread n held buffer.new (S.left shelf.new))) }
+    ensures told { IfOk result (λ n. IfSome (S.left shelf.old)
+        (λ unread. IsAfter unread n held buffer.new (S.left shelf.new))) }
     ensures faults { RisesExactly (is_err result) (S.faults shelf.old) (S.faults shelf.new) }
     ensures misses { S.misses shelf.new ≡ S.misses shelf.old }
     ensures lacks { S.lacks shelf.new ≡ S.lacks shelf.old }
@@ -117,7 +121,8 @@ fn keep_rest(buffer: &mut [u8], from: usize, to: usize)
 // The first number past the limit of times, where `over` is that of the numbers before the piece.
 fn later_over(over: Option<usize>, order: ByteOrder, passed: usize, piece: &[u8]) -> Option<usize>
     requires room { passed + length piece.now / 4 < 2 ^ 64 }
-    ensures first { (times : ℕ → ℕ) → ((k : ℕ) → k < length piece.now / 4 → times (passed + k) ≡ number_at order piece.now k)
+    ensures first { (times : ℕ → ℕ) → ((k : ℕ) → k < length piece.now / 4
+        → times (passed + k) ≡ number_at order piece.now k)
         → IsFirstOver times passed over → IsFirstOver times (passed + length piece.now / 4) result }
     ensures before { result ≡ None → over ≡ None }
     ensures piece { result ≡ None → (k : ℕ) → k < length piece.now / 4 → IsTime (number_at order piece.now k) }

@@ -99,7 +99,8 @@ impl TimeGrid {
         requires frame { IsValidFrame frame.now }
         ensures value { IfOk result (λ times. times.items ≡ search_times self.now.header frame.now self.now.times) }
         ensures aligned { IfOk result (λ _. first_unaligned_axis self.now.header frame.now ≡ None) }
-        ensures axis { (axis : Axis) → IsErrOf result (AlignFault.NotAligned axis) → first_unaligned_axis self.now.header frame.now ≡ Some axis }
+        ensures axis { (axis : Axis) → IsErrOf result (AlignFault.NotAligned axis)
+            → first_unaligned_axis self.now.header frame.now ≡ Some axis }
         ensures one_a_node { IfOk result (λ times. length times.items ≡ node_count frame.now.grid) }
         ensures limit { IfOk result (λ times. All (λ time. time ≤ GREATEST_TIME) times.items) }
     {

@@ -7,6 +7,7 @@ ghost use Rattle.time_grid.specs.Alignment.{HasSameCoordinates, first_unaligned_
 
 /// Where no axis is unaligned, each search node has a node of the time grid, at the same coordinates on all three axes.
 pub fn same_coordinates()
-    ensures { (header : Header) (frame : Frame) (node : ℕ) → first_unaligned_axis header frame ≡ None → node < node_count frame.grid
+    ensures { (header : Header) (frame : Frame) (node : ℕ) → first_unaligned_axis header frame ≡ None
+        → node < node_count frame.grid
         → HasSameCoordinates header frame node (time_node header frame node) }
 {}

@@ -23,7 +23,8 @@ pub(crate) fn number_at(order: ByteOrder, bytes: &[u8], k: usize) -> u32
 
 fn number_of_four(order: ByteOrder, four: &[u8]) -> u32
     requires { length four.now ≡ 4 }
-    ensures { result ≡ number_of_four order (slice_index four.now 0) (slice_index four.now 1) (slice_index four.now 2) (slice_index four.now 3) }
+    ensures { result ≡ number_of_four order (slice_index four.now 0) (slice_index four.now 1)
+        (slice_index four.now 2) (slice_index four.now 3) }
 {
     match order {
         ByteOrder::Little => LittleEndian::read_u32(four),

@@ -90,7 +90,8 @@ impl Selection {
         requires z { ArePlaces (axis_of header.now frame.now Z) z }
         ensures selection { IsSelection (node_count (time_grid_size header.now)) result }
         ensures size { selection_size result ≡ frame.now.grid }
-        ensures nodes { (k : ℕ) → k < node_count frame.now.grid → selected_node result k ≡ time_node header.now frame.now k }
+        ensures nodes { (k : ℕ) → k < node_count frame.now.grid
+            → selected_node result k ≡ time_node header.now frame.now k }
     {
         let row = header.z as usize;
         let plane = header.y as usize * row;

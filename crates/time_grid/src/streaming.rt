@@ -44,7 +44,8 @@ pub fn stream_times<S: Shelf>(
     ensures told { IfSome (S.files shelf.old) (λ file. StreamsBody order (node_count (time_grid_size header.now))
         (λ bytes. into.new ≡ search_times header.now frame.now (body_times order bytes (node_count (time_grid_size header.now)))) (file name.now) result) }
     ensures aligned { OnOk result (first_unaligned_axis header.now frame.now ≡ None) }
-    ensures axis { (axis : Axis) → IsErrOf result (StreamFault.NotAligned axis) → first_unaligned_axis header.now frame.now ≡ Some axis }
+    ensures axis { (axis : Axis) → IsErrOf result (StreamFault.NotAligned axis)
+        → first_unaligned_axis header.now frame.now ≡ Some axis }
     ensures one_a_node { length into.new ≡ node_count frame.now.grid }
     ensures limit { OnOk result (All (λ time. time ≤ GREATEST_TIME) into.new) }
     ensures ended { OnSome (S.files shelf.old) (OnOk result (S.left shelf.new ≡ Some [])) }

@@ -23,7 +23,8 @@ pub(crate) fn read_files(alloc: Global, arguments: &PlacedWords) -> Result<Files
     ensures value { IfOk result (λ value. value ≡ files_of (placed_words arguments.now)) }
     ensures good { OnOk result (files_fault (placed_words arguments.now) ≡ None) }
     ensures limits { IfOk result (λ files. IsTrue (is_name 255 files.obs_file) × IsTrue (is_name 255 files.time_root)) }
-    ensures fault { IfErr result (λ cause. cause ≢ ControlCause.Memory → files_fault (placed_words arguments.now) ≡ Some cause) }
+    ensures fault { IfErr result (λ cause. cause ≢ ControlCause.Memory
+        → files_fault (placed_words arguments.now) ≡ Some cause) }
 {
     if has_wildcard(arguments.at(0)) {
         return Err(ControlCause::Name);
@@ -46,16 +47,20 @@ pub(crate) fn read_include(alloc: Global, arguments: &PlacedWords) -> Result<Nam
     ensures value { IfOk result (λ value. value ≡ include_of (placed_words arguments.now)) }
     ensures good { OnOk result (include_fault (placed_words arguments.now) ≡ None) }
     ensures limits { IfOk result (λ name. IsTrue (is_name 255 name)) }
-    ensures fault { IfErr result (λ cause. cause ≢ ControlCause.Memory → include_fault (placed_words arguments.now) ≡ Some cause) }
+    ensures fault { IfErr result (λ cause. cause ≢ ControlCause.Memory
+        → include_fault (placed_words arguments.now) ≡ Some cause) }
 {
     name_at(alloc, arguments, 0, LONGEST_FILE)
 }
 
 // iSwapBytes, or `false` where the word is absent.
 fn read_swap(arguments: &PlacedWords) -> Result<bool, ControlCause>
-    ensures value { IfOk result (λ swap. swap ≡ (has_word 4 (placed_words arguments.now) && (count_at 4 (placed_words arguments.now) == 1))) }
-    ensures good { OnOk result (optional 4 (placed_words arguments.now) (whole_fault (from_to (pos 0) (pos 1))) ≡ None) }
-    ensures fault { IfErr result (λ cause. optional 4 (placed_words arguments.now) (whole_fault (from_to (pos 0) (pos 1))) ≡ Some cause) }
+    ensures value { IfOk result (λ swap. swap
+        ≡ (has_word 4 (placed_words arguments.now) && (count_at 4 (placed_words arguments.now) == 1))) }
+    ensures good { OnOk result (optional 4 (placed_words arguments.now) (whole_fault (from_to (pos 0) (pos 1)))
+        ≡ None) }
+    ensures fault { IfErr result (λ cause. optional 4 (placed_words arguments.now)
+        (whole_fault (from_to (pos 0) (pos 1))) ≡ Some cause) }
 {
     if !arguments.has(5) {
         return Ok(false);

@@ -25,7 +25,10 @@ pub(crate) fn read_method(arguments: &PlacedWords) -> Result<Method, ControlCaus
     requires { 6 ≤ length (placed_words arguments.now) }
     ensures value { IfOk result (λ value. value ≡ method_of (placed_words arguments.now)) }
     ensures good { OnOk result (method_fault (placed_words arguments.now) ≡ None) }
-    ensures limits { IfOk result (λ method. (unsigned_abs method.max_dist ≤ 10 ^ 12) × (unsigned_abs method.min_dist ≤ 10 ^ 12) × (unsigned_abs method.min_phases < 10 ^ 9) × (unsigned_abs method.max_phases < 10 ^ 9) × (unsigned_abs method.min_s < 10 ^ 9) × (method.vpvs ≤ℤ pos 10000000)) }
+    ensures limits { IfOk result (λ method. (unsigned_abs method.max_dist ≤ 10 ^ 12)
+        × (unsigned_abs method.min_dist ≤ 10 ^ 12) × (unsigned_abs method.min_phases < 10 ^ 9)
+        × (unsigned_abs method.max_phases < 10 ^ 9) × (unsigned_abs method.min_s < 10 ^ 9)
+        × (method.vpvs ≤ℤ pos 10000000)) }
     ensures fault { IfErr result (λ cause. method_fault (placed_words arguments.now) ≡ Some cause) }
 {
     if !is_word(arguments, 0, b"EDT") {
@@ -44,7 +47,9 @@ pub(crate) fn read_method(arguments: &PlacedWords) -> Result<Method, ControlCaus
 
 // minDistStaGrid, or its default where the word is absent.
 fn read_min_dist(arguments: &PlacedWords) -> Result<i64, ControlCause>
-    ensures value { IfOk result (λ least. least ≡ (if has_word 7 (placed_words arguments.now) then millionths_at 7 (placed_words arguments.now) else negsuc 999999)) }
+    ensures value { IfOk result (λ least. least
+        ≡ (if has_word 7 (placed_words arguments.now)
+            then millionths_at 7 (placed_words arguments.now) else negsuc 999999)) }
     ensures limits { IfOk result (λ least. unsigned_abs least ≤ 10 ^ 12) }
     ensures good { OnOk result (optional 7 (placed_words arguments.now) distance_fault ≡ None) }
     ensures fault { IfErr result (λ cause. optional 7 (placed_words arguments.now) distance_fault ≡ Some cause) }
@@ -57,7 +62,8 @@ fn read_min_dist(arguments: &PlacedWords) -> Result<i64, ControlCause>
 
 // Whether iRejectDuplicateArrivals rejects: it is absent, or not 0.
 fn rejects_duplicates(arguments: &PlacedWords) -> Result<bool, ControlCause>
-    ensures value { IfOk result (λ rejects. rejects ≡ not (has_word 8 (placed_words arguments.now) && (count_at 8 (placed_words arguments.now) == 0))) }
+    ensures value { IfOk result (λ rejects. rejects
+        ≡ not (has_word 8 (placed_words arguments.now) && (count_at 8 (placed_words arguments.now) == 0))) }
     ensures good { OnOk result (optional 8 (placed_words arguments.now) (whole_fault any) ≡ None) }
     ensures fault { IfErr result (λ cause. optional 8 (placed_words arguments.now) (whole_fault any) ≡ Some cause) }
 {

@@ -23,7 +23,8 @@ pub(crate) fn name_at(
     ensures value { IfOk result (λ name. name ≡ word_at place (placed_words words.now)) }
     ensures form { IfOk result (λ name. IsTrue (names.is_name most name)) }
     ensures good { OnOk result (name_fault most (word_at place (placed_words words.now)) ≡ None) }
-    ensures fault { IfErr result (λ cause. cause ≢ ControlCause.Memory → name_fault most (word_at place (placed_words words.now)) ≡ Some cause) }
+    ensures fault { IfErr result (λ cause. cause ≢ ControlCause.Memory
+        → name_fault most (word_at place (placed_words words.now)) ≡ Some cause) }
 {
     read_name(alloc, words.at(place), most)
 }
@@ -41,7 +42,8 @@ pub(crate) fn read_name(alloc: Global, word: &[u8], most: usize) -> Result<Name,
     requires { most ≤ 512 }
     ensures value { IfOk result (λ name. name ≡ word.now) }
     ensures good { OnOk result (IsTrue (names.is_name most word.now)) }
-    ensures fault { IfErr result (λ cause. cause ≢ ControlCause.Memory → (cause ≡ ControlCause.Name) × (names.is_name most word.now ≡ false)) }
+    ensures fault { IfErr result (λ cause. cause ≢ ControlCause.Memory → (cause ≡ ControlCause.Name)
+        × (names.is_name most word.now ≡ false)) }
 {
     if !is_name(word, most) {
         return Err(ControlCause::Name);

@@ -36,7 +36,8 @@ pub(crate) fn whole_from_to(
     ensures value { IfOk result (λ n. n ≡ whole_at place (placed_words words.now)) }
     ensures range { IfOk result (λ n. (least ≤ℤ n) × (n ≤ℤ most)) }
     ensures good { OnOk result (whole_fault (from_to least most) (word_at place (placed_words words.now)) ≡ None) }
-    ensures fault { IfErr result (λ cause. whole_fault (from_to least most) (word_at place (placed_words words.now)) ≡ Some cause) }
+    ensures fault { IfErr result (λ cause. whole_fault (from_to least most)
+        (word_at place (placed_words words.now)) ≡ Some cause) }
 {
     let number = whole(words, place)?;
     if !is_from_to(least, most, number) {
@@ -68,7 +69,8 @@ pub(crate) fn millionths_from_to(
     ensures value { IfOk result (λ n. n ≡ millionths_at place (placed_words words.now)) }
     ensures range { IfOk result (λ n. (least ≤ℤ n) × (n ≤ℤ most)) }
     ensures good { OnOk result (decimal_fault (from_to least most) (word_at place (placed_words words.now)) ≡ None) }
-    ensures fault { IfErr result (λ cause. decimal_fault (from_to least most) (word_at place (placed_words words.now)) ≡ Some cause) }
+    ensures fault { IfErr result (λ cause. decimal_fault (from_to least most)
+        (word_at place (placed_words words.now)) ≡ Some cause) }
 {
     let number = millionths(words, place)?;
     if !is_from_to(least, most, number) {
@@ -87,7 +89,8 @@ pub(crate) fn millionths_in_size(
     ensures value { IfOk result (λ n. n ≡ millionths_at place (placed_words words.now)) }
     ensures range { IfOk result (λ n. unsigned_abs n ≤ most) }
     ensures good { OnOk result (decimal_fault (in_size most) (word_at place (placed_words words.now)) ≡ None) }
-    ensures fault { IfErr result (λ cause. decimal_fault (in_size most) (word_at place (placed_words words.now)) ≡ Some cause) }
+    ensures fault { IfErr result (λ cause. decimal_fault (in_size most) (word_at place (placed_words words.now))
+        ≡ Some cause) }
 {
     let number = millionths(words, place)?;
     if number.unsigned_abs() > most {
@@ -106,7 +109,8 @@ pub(crate) fn millionths_at_most(
     ensures value { IfOk result (λ n. n ≡ millionths_at place (placed_words words.now)) }
     ensures range { IfOk result (λ n. n ≤ℤ most) }
     ensures good { OnOk result (decimal_fault (at_most most) (word_at place (placed_words words.now)) ≡ None) }
-    ensures fault { IfErr result (λ cause. decimal_fault (at_most most) (word_at place (placed_words words.now)) ≡ Some cause) }
+    ensures fault { IfErr result (λ cause. decimal_fault (at_most most) (word_at place (placed_words words.now))
+        ≡ Some cause) }
 {
     let number = millionths(words, place)?;
     if number > most {

@@ -31,7 +31,8 @@ pub(crate) fn read_phase_ids(
     ensures value { OnOk result (into.new.items ≡ into.old.items ++ phase_ids_of (placed_words arguments.now)) }
     ensures good { OnOk result (phase_ids_fault (placed_words arguments.now) ≡ None) }
     ensures limits { All IsPhaseId into.old.items → OnOk result (All IsPhaseId into.new.items) }
-    ensures fault { IfErr result (λ cause. cause ≢ ControlCause.Memory → phase_ids_fault (placed_words arguments.now) ≡ Some cause) }
+    ensures fault { IfErr result (λ cause. cause ≢ ControlCause.Memory
+        → phase_ids_fault (placed_words arguments.now) ≡ Some cause) }
 {
     let standard = name_at(alloc, arguments, 0, LONGEST_NAME)?;
     let mut codes = arguments.after_first();
@@ -48,7 +49,8 @@ fn read_phase_id(alloc: Global, standard: &Name, code: &[u8]) -> Result<PhaseId,
     ensures value { IfOk result (λ id. id ≡ record { standard = standard.now; code = code.now }) }
     ensures limits { IfOk result IsPhaseId }
     ensures good { OnOk result (IsTrue (is_name 64 code.now)) }
-    ensures fault { IfErr result (λ cause. cause ≢ ControlCause.Memory → (cause ≡ ControlCause.Name) × (is_name 64 code.now ≡ false)) }
+    ensures fault { IfErr result (λ cause. cause ≢ ControlCause.Memory → (cause ≡ ControlCause.Name)
+        × (is_name 64 code.now ≡ false)) }
 {
     let code = read_name(alloc, code, LONGEST_NAME)?;
     let standard = copy_name(alloc, standard)?;
@@ -62,7 +64,8 @@ pub(crate) fn read_exclude(alloc: Global, arguments: &PlacedWords) -> Result<Exc
     ensures value { IfOk result (λ value. value ≡ exclude_of (placed_words arguments.now)) }
     ensures good { OnOk result (exclude_fault (placed_words arguments.now) ≡ None) }
     ensures limits { IfOk result IsExclude }
-    ensures fault { IfErr result (λ cause. cause ≢ ControlCause.Memory → exclude_fault (placed_words arguments.now) ≡ Some cause) }
+    ensures fault { IfErr result (λ cause. cause ≢ ControlCause.Memory
+        → exclude_fault (placed_words arguments.now) ≡ Some cause) }
 {
     Ok(Exclude {
         station: name_at(alloc, arguments, 0, LONGEST_NAME)?,
@@ -77,7 +80,8 @@ pub(crate) fn read_delay(alloc: Global, arguments: &PlacedWords) -> Result<Delay
     ensures value { IfOk result (λ value. value ≡ delay_of (placed_words arguments.now)) }
     ensures good { OnOk result (delay_fault (placed_words arguments.now) ≡ None) }
     ensures limits { IfOk result IsDelay }
-    ensures fault { IfErr result (λ cause. cause ≢ ControlCause.Memory → delay_fault (placed_words arguments.now) ≡ Some cause) }
+    ensures fault { IfErr result (λ cause. cause ≢ ControlCause.Memory
+        → delay_fault (placed_words arguments.now) ≡ Some cause) }
 {
     let station = name_at(alloc, arguments, 0, LONGEST_NAME)?;
     let phase = name_at(alloc, arguments, 1, LONGEST_NAME)?;
@@ -97,7 +101,8 @@ pub(crate) fn read_alias(alloc: Global, arguments: &PlacedWords) -> Result<Alias
     ensures value { IfOk result (λ value. value ≡ alias_of (placed_words arguments.now)) }
     ensures good { OnOk result (alias_fault (placed_words arguments.now) ≡ None) }
     ensures limits { IfOk result IsAlias }
-    ensures fault { IfErr result (λ cause. cause ≢ ControlCause.Memory → alias_fault (placed_words arguments.now) ≡ Some cause) }
+    ensures fault { IfErr result (λ cause. cause ≢ ControlCause.Memory
+        → alias_fault (placed_words arguments.now) ≡ Some cause) }
 {
     Ok(Alias {
         station: name_at(alloc, arguments, 0, LONGEST_NAME)?,
@@ -110,11 +115,16 @@ pub(crate) fn read_alias(alloc: Global, arguments: &PlacedWords) -> Result<Alias
 // Year, month and day at three places.
 fn read_date(arguments: &PlacedWords, place: usize) -> Result<(i64, i64, i64), ControlCause>
     requires { place ≤ 6 }
-    ensures value { IfOk result (λ date. date ≡ (whole_at place (placed_words arguments.now), whole_at (place + 1) (placed_words arguments.now), whole_at (place + 2) (placed_words arguments.now))) }
+    ensures value { IfOk result (λ date. date
+        ≡ (whole_at place (placed_words arguments.now), whole_at (place + 1) (placed_words arguments.now),
+            whole_at (place + 2) (placed_words arguments.now))) }
     ensures year { OnOk result (whole_fault any (word_at place (placed_words arguments.now)) ≡ None) }
     ensures month { OnOk result (whole_fault any (word_at (place + 1) (placed_words arguments.now)) ≡ None) }
     ensures day { OnOk result (whole_fault any (word_at (place + 2) (placed_words arguments.now)) ≡ None) }
-    ensures fault { IfErr result (λ cause. first_cause (whole_fault any (word_at place (placed_words arguments.now)) ∷ whole_fault any (word_at (place + 1) (placed_words arguments.now)) ∷ whole_fault any (word_at (place + 2) (placed_words arguments.now)) ∷ []) ≡ Some cause) }
+    ensures fault { IfErr result (λ cause. first_cause
+        (whole_fault any (word_at place (placed_words arguments.now))
+            ∷ whole_fault any (word_at (place + 1) (placed_words arguments.now))
+            ∷ whole_fault any (word_at (place + 2) (placed_words arguments.now)) ∷ []) ≡ Some cause) }
 {
     let year = whole(arguments, place)?;
     let month = whole(arguments, place + 1)?;

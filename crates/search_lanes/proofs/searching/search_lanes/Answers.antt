@@ -1,18 +1,16 @@
-use Rattle.std.proofs.Common.{◌≡◌, ℕ, List, arith, true, sym, ap, ◌∙◌, subst}
+use Rattle.std.proofs.Common.{◌≡◌, ℕ, arith, sym, ap, ◌∙◌, subst}
 use Rattle.std.specs.Int.{cast_signed, cast_unsigned, w64}
 use Rattle.std.proofs.lemmas.Int.{to_z-of_z}
 use Rattle.std.proofs.lemmas.Option.{MatchOption-at_some}
 use Rattle.node_boxes.specs.declared.node_box.NodeBox.{NodeBox}
-use Rattle.node_boxes.specs.Grid.{GridSize}
-use Rattle.edt_score.specs.Judging.{BoundsFall}
 use Rattle.octree_search.specs.Outcomes.{found_value, outcome_of}
-use Rattle.search_lanes.specs.Lanes.{is_finished}
 use Rattle.search_lanes.specs.LaneViews.{LanesView}
 use Rattle.search_lanes.specs.Schedule.{schedule}
 use Rattle.search_lanes.specs.Inside.Passing.{IsPassed}
+use Rattle.search_lanes.proofs.LaneOver.{falls_same}
 use Rattle.search_lanes.proofs.Passed.{passed_after, passed_none}
 use Rattle.search_lanes.proofs.Seeds.{seed_read}
-use Rattle.search_lanes.proofs.Searches.{IsSearching, search_begun, chosen_possible, chosen_gone, live_left, search_whole, search_asks}
+use Rattle.search_lanes.proofs.Searches.{IsSearching, search_begun, chosen_possible, chosen_gone, finished_seen, live_left, search_whole, search_asks}
 use Rattle.search_lanes.proofs.searching.search_lanes.Goals as goal
 
 pub loop-event-init : goal.loop-event-init
@@ -20,9 +18,7 @@ loop-event-init g c =
     let grid = c.args.grid.now in
     let roots = c.args.roots.now in
     let bound = g.J.Judge.bound_of c.args.judge.now in
-    let falls : BoundsFall grid roots bound =
-    subst (λ (size : GridSize). BoundsFall size roots bound) c.requires.grid
-    (subst (λ (r : List NodeBox). BoundsFall (g.J.Judge.grid c.args.judge.now) r bound) c.requires.judge_roots (g.met.J.Judge.falls c.args.judge.now)) in
+    let falls = falls_same grid _ roots _ bound c.requires.grid c.requires.judge_roots (g.met.J.Judge.falls c.args.judge.now) in
     let begun = c.in_ok-shared.ensures in
     record {
       still = begun.still;
@@ -46,9 +42,7 @@ next_event-requires-clause-some g c =
     let grid = c.args.grid.now in
     let roots = c.args.roots.now in
     let bound = g.J.Judge.bound_of c.args.judge.now in
-    let falls : BoundsFall grid roots bound =
-    subst (λ (size : GridSize). BoundsFall size roots bound) c.requires.grid
-    (subst (λ (r : List NodeBox). BoundsFall (g.J.Judge.grid c.args.judge.now) r bound) c.requires.judge_roots (g.met.J.Judge.falls c.args.judge.now)) in
+    let falls = falls_same grid _ roots _ bound c.requires.grid c.requires.judge_roots (g.met.J.Judge.falls c.args.judge.now) in
     live_left grid roots bound c.args.margin c.args.budget c.requires.roots falls c.args.lanes (cast_signed w64 (cast_unsigned w64 c.args.seed))
     c.loop-event.events.items c.loop-event.state c.loop-event.shared.state c.loop-event.invariant.search
 
@@ -57,9 +51,7 @@ unreachable-requires g c =
     let grid = c.args.grid.now in
     let roots = c.args.roots.now in
     let bound = g.J.Judge.bound_of c.args.judge.now in
-    let falls : BoundsFall grid roots bound =
-    subst (λ (size : GridSize). BoundsFall size roots bound) c.requires.grid
-    (subst (λ (r : List NodeBox). BoundsFall (g.J.Judge.grid c.args.judge.now) r bound) c.requires.judge_roots (g.met.J.Judge.falls c.args.judge.now)) in
+    let falls = falls_same grid _ roots _ bound c.requires.grid c.requires.judge_roots (g.met.J.Judge.falls c.args.judge.now) in
     let kept = c.loop-event.invariant in
     chosen_possible grid roots bound c.args.margin c.args.budget c.requires.roots falls c.args.lanes (cast_signed w64 (cast_unsigned w64 c.args.seed))
     c.loop-event.events.items c.loop-event.state c.in-Some.event c.loop-event.shared (g.J.Judge.bound_of c.loop-event.judge)
@@ -70,9 +62,7 @@ loop-event-smaller g c =
     let grid = c.args.grid.now in
     let roots = c.args.roots.now in
     let bound = g.J.Judge.bound_of c.args.judge.now in
-    let falls : BoundsFall grid roots bound =
-    subst (λ (size : GridSize). BoundsFall size roots bound) c.requires.grid
-    (subst (λ (r : List NodeBox). BoundsFall (g.J.Judge.grid c.args.judge.now) r bound) c.requires.judge_roots (g.met.J.Judge.falls c.args.judge.now)) in
+    let falls = falls_same grid _ roots _ bound c.requires.grid c.requires.judge_roots (g.met.J.Judge.falls c.args.judge.now) in
     let kept = c.loop-event.invariant in
     (chosen_gone grid roots bound c.args.margin c.args.budget c.requires.roots falls c.args.lanes (cast_signed w64 (cast_unsigned w64 c.args.seed))
     c.loop-event.events.items c.loop-event.state c.next_event.new.state c.in-Some.event c.loop-event.shared c.step.new.self (g.J.Judge.bound_of c.loop-event.judge)
@@ -83,9 +73,7 @@ loop-event-preserved g c =
     let grid = c.args.grid.now in
     let roots = c.args.roots.now in
     let bound = g.J.Judge.bound_of c.args.judge.now in
-    let falls : BoundsFall grid roots bound =
-    subst (λ (size : GridSize). BoundsFall size roots bound) c.requires.grid
-    (subst (λ (r : List NodeBox). BoundsFall (g.J.Judge.grid c.args.judge.now) r bound) c.requires.judge_roots (g.met.J.Judge.falls c.args.judge.now)) in
+    let falls = falls_same grid _ roots _ bound c.requires.grid c.requires.judge_roots (g.met.J.Judge.falls c.args.judge.now) in
     let kept = c.loop-event.invariant in
     let done = c.in-Ok.ensures in
     let gone = chosen_gone grid roots bound c.args.margin c.args.budget c.requires.roots falls c.args.lanes (cast_signed w64 (cast_unsigned w64 c.args.seed))
@@ -112,13 +100,9 @@ returns-clause-asked g c =
     let grid = c.args.grid.now in
     let roots = c.args.roots.now in
     let bound = g.J.Judge.bound_of c.args.judge.now in
-    let falls : BoundsFall grid roots bound =
-    subst (λ (size : GridSize). BoundsFall size roots bound) c.requires.grid
-    (subst (λ (r : List NodeBox). BoundsFall (g.J.Judge.grid c.args.judge.now) r bound) c.requires.judge_roots (g.met.J.Judge.falls c.args.judge.now)) in
+    let falls = falls_same grid _ roots _ bound c.requires.grid c.requires.judge_roots (g.met.J.Judge.falls c.args.judge.now) in
     let kept = c.loop-event.invariant in
-    let over : is_finished c.loop-event.shared.margin c.loop-event.shared.state ≡ true = c.in_default.ensures.event in
-    let finished : is_finished c.args.margin c.loop-event.shared.state ≡ true =
-    subst (λ (v : LanesView). is_finished v.margin c.loop-event.shared.state ≡ true) kept.seen over in
+    let finished = finished_seen c.loop-event.shared _ kept.seen c.in_default.ensures.event in
     let outcome = MatchOption-at_some _ _ c.in-Some-2.found c.in-Some-2.is c.in_ok-found.ensures.value in
     search_asks grid roots bound c.args.margin c.args.budget c.requires.roots falls c.args.lanes (cast_signed w64 (cast_unsigned w64 c.args.seed))
     c.loop-event.events.items c.loop-event.state c.loop-event.shared.state (g.J.Judge.count c.args.judge.now) (g.J.Judge.count c.loop-event.judge) c.in-Some-2.found
@@ -132,13 +116,9 @@ returns-clause-events g c =
     let grid = c.args.grid.now in
     let roots = c.args.roots.now in
     let bound = g.J.Judge.bound_of c.args.judge.now in
-    let falls : BoundsFall grid roots bound =
-    subst (λ (size : GridSize). BoundsFall size roots bound) c.requires.grid
-    (subst (λ (r : List NodeBox). BoundsFall (g.J.Judge.grid c.args.judge.now) r bound) c.requires.judge_roots (g.met.J.Judge.falls c.args.judge.now)) in
+    let falls = falls_same grid _ roots _ bound c.requires.grid c.requires.judge_roots (g.met.J.Judge.falls c.args.judge.now) in
     let kept = c.loop-event.invariant in
-    let over : is_finished c.loop-event.shared.margin c.loop-event.shared.state ≡ true = c.in_default.ensures.event in
-    let finished : is_finished c.args.margin c.loop-event.shared.state ≡ true =
-    subst (λ (v : LanesView). is_finished v.margin c.loop-event.shared.state ≡ true) kept.seen over in
+    let finished = finished_seen c.loop-event.shared _ kept.seen c.in_default.ensures.event in
     subst (λ seed. c.loop-event.events.items ≡ schedule bound c.args.margin c.args.budget c.args.lanes seed roots) (to_z-of_z w64 c.args.seed c.ranges.seed)
     (search_whole grid roots bound c.args.margin c.args.budget c.requires.roots falls c.args.lanes (cast_signed w64 (cast_unsigned w64 c.args.seed))
     c.loop-event.events.items c.loop-event.state c.loop-event.shared.state kept.search finished)
@@ -147,7 +127,5 @@ pub returns-clause-finished : goal.returns-clause-finished
 returns-clause-finished g c =
     let bound = g.J.Judge.bound_of c.args.judge.now in
     let kept = c.loop-event.invariant in
-    let over : is_finished c.loop-event.shared.margin c.loop-event.shared.state ≡ true = c.in_default.ensures.event in
-    let finished : is_finished c.args.margin c.loop-event.shared.state ≡ true =
-    subst (λ (v : LanesView). is_finished v.margin c.loop-event.shared.state ≡ true) kept.seen over in
+    let finished = finished_seen c.loop-event.shared _ kept.seen c.in_default.ensures.event in
     (record { end = c.loop-event.shared.state; run = kept.search.run; finished = finished }, kept.asked)
