@@ -68,7 +68,11 @@ pub fn read_control(
 }
 
 // What all lines say, those of each included file after its line, or their first fault.
-fn read_lines(alloc: Global, main: &[u8], included: &[Vec<u8>]) -> Result<ControlDraft, ControlFault>
+fn read_lines(
+    alloc: Global,
+    main: &[u8],
+    included: &[Vec<u8>],
+) -> Result<ControlDraft, ControlFault>
     requires main { length main.now ≤ 1048576 }
     requires files { length included.now ≡ include_count main.now }
     requires sizes { All (λ file. vec_len file ≤ 1048576) included.now }

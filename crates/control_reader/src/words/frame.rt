@@ -44,13 +44,13 @@ pub(crate) fn read_frame(arguments: &PlacedWords) -> Result<Frame, ControlCause>
 fn read_grid(arguments: &PlacedWords) -> Result<Grid, ControlCause>
     ensures value { IfOk result (λ grid. grid
         ≡ grid_size (count_at 0 (placed_words arguments.now)) (count_at 1 (placed_words arguments.now))
-            (count_at 2 (placed_words arguments.now))) }
+        (count_at 2 (placed_words arguments.now))) }
     ensures x { OnOk result (axis_fault (word_at 0 (placed_words arguments.now)) ≡ None) }
     ensures y { OnOk result (axis_fault (word_at 1 (placed_words arguments.now)) ≡ None) }
     ensures z { OnOk result (axis_fault (word_at 2 (placed_words arguments.now)) ≡ None) }
     ensures nodes { OnOk result (nat_le
         (count_at 0 (placed_words arguments.now) * count_at 1 (placed_words arguments.now)
-            * count_at 2 (placed_words arguments.now)) MOST_NODES ≡ true) }
+        * count_at 2 (placed_words arguments.now)) MOST_NODES ≡ true) }
     ensures limits { IfOk result IsGrid }
     ensures fault { IfErr result (λ cause. frame_fault (placed_words arguments.now) ≡ Some cause) }
 {

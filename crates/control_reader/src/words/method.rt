@@ -49,7 +49,7 @@ pub(crate) fn read_method(arguments: &PlacedWords) -> Result<Method, ControlCaus
 fn read_min_dist(arguments: &PlacedWords) -> Result<i64, ControlCause>
     ensures value { IfOk result (λ least. least
         ≡ (if has_word 7 (placed_words arguments.now)
-            then millionths_at 7 (placed_words arguments.now) else negsuc 999999)) }
+        then millionths_at 7 (placed_words arguments.now) else negsuc 999999)) }
     ensures limits { IfOk result (λ least. unsigned_abs least ≤ 10 ^ 12) }
     ensures good { OnOk result (optional 7 (placed_words arguments.now) distance_fault ≡ None) }
     ensures fault { IfErr result (λ cause. optional 7 (placed_words arguments.now) distance_fault ≡ Some cause) }

@@ -116,15 +116,18 @@ pub(crate) fn read_alias(alloc: Global, arguments: &PlacedWords) -> Result<Alias
 fn read_date(arguments: &PlacedWords, place: usize) -> Result<(i64, i64, i64), ControlCause>
     requires { place ≤ 6 }
     ensures value { IfOk result (λ date. date
-        ≡ (whole_at place (placed_words arguments.now), whole_at (place + 1) (placed_words arguments.now),
-            whole_at (place + 2) (placed_words arguments.now))) }
+        ≡ (
+          whole_at place (placed_words arguments.now),
+          whole_at (place + 1) (placed_words arguments.now),
+          whole_at (place + 2) (placed_words arguments.now),
+        )) }
     ensures year { OnOk result (whole_fault any (word_at place (placed_words arguments.now)) ≡ None) }
     ensures month { OnOk result (whole_fault any (word_at (place + 1) (placed_words arguments.now)) ≡ None) }
     ensures day { OnOk result (whole_fault any (word_at (place + 2) (placed_words arguments.now)) ≡ None) }
     ensures fault { IfErr result (λ cause. first_cause
         (whole_fault any (word_at place (placed_words arguments.now))
-            ∷ whole_fault any (word_at (place + 1) (placed_words arguments.now))
-            ∷ whole_fault any (word_at (place + 2) (placed_words arguments.now)) ∷ []) ≡ Some cause) }
+        ∷ whole_fault any (word_at (place + 1) (placed_words arguments.now))
+        ∷ whole_fault any (word_at (place + 2) (placed_words arguments.now)) ∷ []) ≡ Some cause) }
 {
     let year = whole(arguments, place)?;
     let month = whole(arguments, place + 1)?;

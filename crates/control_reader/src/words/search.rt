@@ -57,9 +57,11 @@ pub(crate) fn read_cells(arguments: &PlacedWords) -> Result<(u32, u32, u32), Con
 // The initial cells of a search of the type `OCT`.
 fn read_octree(arguments: &PlacedWords) -> Result<(u32, u32, u32), ControlCause>
     ensures value { IfOk result (λ cells. cells
-        ≡ (cells_of_number (whole_at 1 (placed_words arguments.now)),
-            cells_of_number (whole_at 2 (placed_words arguments.now)),
-            cells_of_number (whole_at 3 (placed_words arguments.now)))) }
+        ≡ (
+          cells_of_number (whole_at 1 (placed_words arguments.now)),
+          cells_of_number (whole_at 2 (placed_words arguments.now)),
+          cells_of_number (whole_at 3 (placed_words arguments.now)),
+        )) }
     ensures good { OnOk result (octree_fault (placed_words arguments.now) ≡ None) }
     ensures limits { IfOk result (λ cells. IsCellCount cells.0 × IsCellCount cells.1 × IsCellCount cells.2) }
     ensures fault { IfErr result (λ cause. octree_fault (placed_words arguments.now) ≡ Some cause) }
