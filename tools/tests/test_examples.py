@@ -100,6 +100,12 @@ class Examples(unittest.TestCase):
             file.flush()
             return self.run_program(folder, "edtcheck", control, file.name)
 
+    def test_words_that_are_not_utf_8_have_no_shape(self):
+        for program, words in ("edtloc", [b"locate", b"\xff"]), ("edtcheck", [b"\xff", b"a.report"]):
+            command = [os.path.join(TOP, "tools", program).encode(), *words]
+            run = subprocess.run(command, capture_output=True, check=False)
+            self.assertEqual((run.returncode, run.stdout, run.stderr), (2, b"", b"%s: words\n" % program.encode()), command)
+
     def test_readme(self):
         text = self.run_program("examples/quarry", "edtloc", "locate", "quarry.in")
         self.assert_shown("README.md", "EDTLOC 1 ", text)

@@ -141,6 +141,9 @@ fn the_first_faulty_line_decides(rt: HostRuntime) {
             3,
             BlockCause::Limit,
         ),
+        // The greatest counts are read, and the line after them is missing.
+        ("CERT LOCATED\nBEST 0 1\nNEAR 100000\n", 4, BlockCause::Form),
+        ("CERT NOFIT\nCOVER 2000000\n", 3, BlockCause::Form),
         (
             "CERT LOCATED\nBEST 0 1\nNEAR 4294967296\n",
             3,

@@ -5,10 +5,11 @@ use std::process::Abort;
 use std::test::Fail;
 
 // Text of the sample's report, what stands in its place, and the first faulty line with its cause.
-const FAULTY: [(&str, &str, &str); 17] = [
+const FAULTY: [(&str, &str, &str); 18] = [
     ("EDTLOC 1", "EDTLOC 01", "1 Form"),
     ("PASSED 2 0", "PASSED 2 0 ", "1 Form"),
     ("PASSED 2 0", "PASSED 2\t0", "1 Form"),
+    ("PASSED 2 0", "PASSED 2", "1 Form"),
     ("PASSED 2 0", "PASSED 02 0", "1 Number"),
     (
         "EVENTS 1 PASSED 2",
@@ -36,6 +37,30 @@ fn faulty_reports_are_refused_at_their_first_fault(rt: HostRuntime) -> Result<()
         let line = format!(in alloc; "edtcheck: report {fault}\n")?;
         let change = Change::Swap("e1.report", old, new);
         expect_refused(&rt, alloc, &[change], 10, line.as_str())?;
+    }
+    Ok(())
+}
+
+#[test]
+fn a_report_without_a_whole_first_line_is_refused(rt: HostRuntime) -> Result<(), Fail> {
+    for bytes in [b"".as_slice(), b"EDTLOC 1 EVENTS 1 PASSED 2 0".as_slice()] {
+        let change = Change::Put("e1.report", bytes);
+        let line = "edtcheck: report 1 Form\n";
+        expect_refused(&rt, rt.alloc(), &[change], 10, line)?;
+    }
+    Ok(())
+}
+
+#[test]
+fn a_report_past_its_limit_is_refused_before_it_is_read(rt: HostRuntime) -> Result<(), Fail> {
+    let alloc = rt.alloc();
+    let long = vec![in alloc; b'\n'; 268_435_457]?;
+    for (bytes, line) in [
+        (&long[..268_435_456], "edtcheck: report 1 Form\n"),
+        (&long[..], "edtcheck: report 0 TooLong\n"),
+    ] {
+        let change = Change::Put("e1.report", bytes);
+        expect_refused(&rt, alloc, &[change], 10, line)?;
     }
     Ok(())
 }

@@ -63,6 +63,8 @@ pub const PROVED: &str = "CHECK 1 PROVED 0 0 0 0 10000000 0 0 343597383680 1\n";
 pub enum Change<'a> {
     // In this file of the sample, for this text, the other.
     Swap(&'a str, &'a str, &'a str),
+    // These bytes in place of those of this file of the sample.
+    Put(&'a str, &'a [u8]),
     // This file of the sample is left out.
     Remove(&'a str),
 }
@@ -132,6 +134,7 @@ fn changed(
                 assert!(rt; text.contains(*old), "no {old}");
                 now = text.replacen(alloc, *old, *new, 1)?.into_bytes();
             }
+            Change::Put(file, bytes) if *file == name => now = bytes.to_vec(alloc)?,
             Change::Remove(file) if *file == name => return Ok(None),
             _ => {}
         }

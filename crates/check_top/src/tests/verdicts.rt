@@ -93,6 +93,15 @@ fn the_line_of_the_lanes_is_passed_over(rt: HostRuntime) -> Result<(), Fail> {
     expect_line(&rt, alloc, &[given], 0, PROVED)
 }
 
+#[test]
+fn a_line_of_any_length_is_passed_over(rt: HostRuntime) -> Result<(), Fail> {
+    let alloc = rt.alloc();
+    let more = "x".repeat(alloc, 5000)?;
+    let line = format!(in alloc; "MET 5\n{more}\n")?;
+    let change = Change::Swap("e1.report", "MET 5\n", line.as_str());
+    expect_line(&rt, alloc, &[change], 0, PROVED)
+}
+
 // The sample in which no pair ever fits, and a certificate of that.
 #[test]
 fn no_fit_is_proved_where_no_node_scores(rt: HostRuntime) -> Result<(), Fail> {
@@ -132,7 +141,12 @@ fn a_later_node_of_the_best_score_is_refused(rt: HostRuntime) -> Result<(), Fail
 fn kinds_are_held_against_the_event(rt: HostRuntime) -> Result<(), Fail> {
     let alloc = rt.alloc();
     let few = Change::Remove("time/a.P.BBB.time.hdr");
-    let many = Change::Swap("e1.in", "EDT 9999.0 2", "EDT 9999.0 3");
+    let three = Change::Swap("e1.in", "EDT 9999.0 2", "EDT 9999.0 3");
+    let budget = Change::Swap("e1.in", "LOCGAU", "EDTBUDGET 4\nLOCGAU");
+    // Each of the 257 picks is used, since duplicates aren't rejected.
+    let kept = Change::Swap("e1.in", "2 -1 -1 -1 0", "2 -1 -1 -1 0 -1 0");
+    let picks = "AAA ? ? ? P U 19940217 2216 45.0 GAU 0.1\n".repeat(alloc, 257)?;
+    let many = Change::Put("obs.txt", picks.as_str().as_bytes());
     for (changes, kind, status, words) in [
         (&[][..], "CERT FEW\n", 1, "REFUSED KIND"),
         (&[], "CERT MANY\n", 1, "REFUSED KIND"),
@@ -141,7 +155,19 @@ fn kinds_are_held_against_the_event(rt: HostRuntime) -> Result<(), Fail> {
         (&[few], LOCATED, 1, "REFUSED KIND"),
         (&[few], "CERT BUDGET\n", 1, "REFUSED KIND"),
         (&[few], "CERT FEW\n", 0, "AGREED FEW"),
-        (&[many], "CERT FEW\n", 0, "AGREED FEW"),
+        (&[three], "CERT FEW\n", 0, "AGREED FEW"),
+        (&[kept, many], "CERT MANY\n", 0, "AGREED MANY"),
+        (&[kept, many], "CERT FEW\n", 1, "REFUSED KIND"),
+        (&[kept, many], "CERT BUDGET\n", 1, "REFUSED KIND"),
+        (&[kept, many], LOCATED, 1, "REFUSED KIND"),
+        // The search would pass this budget.
+        (&[budget], "CERT BUDGET\n", 0, "UNPROVED BUDGET"),
+        (
+            &[budget],
+            LOCATED,
+            0,
+            "PROVED 0 0 0 0 10000000 0 0 343597383680 1",
+        ),
     ] {
         let mut all = Vec::new(alloc);
         for change in changes {

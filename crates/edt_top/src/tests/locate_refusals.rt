@@ -1,7 +1,7 @@
 //! Refusals of the files of a run that locates. The expected values were found apart from this code.
 
 use super::sample::Change::{Add, Put, Remove, Swap};
-use super::sample::{CONTROL, FIRST_HEADER, expect_refused};
+use super::sample::{CONTROL, FIRST_HEADER, TEXT, expect_refused, expect_text};
 use std::test::Fail;
 
 const GRID_LINE: &str = "LOCGRID 4 1 1 10.0 0.0 0.0 1.0 1.0 1.0 PROB_DENSITY SAVE\n";
@@ -22,18 +22,27 @@ fn names_the_first_faulty_line_of_a_control_file(rt: HostRuntime) -> Result<(), 
         (GRID_LINE, twice.as_str(), "edtloc: control 0 7 Repeated\n"),
         (GRID_LINE, "", "edtloc: control 0 0 Missing LOCGRID\n"),
         (LAST_LINE, errors.as_str(), "edtloc: control 0 10 NotYet\n"),
-        (
-            "# sample",
-            "EDTKERNEL COUNT",
-            "edtloc: control 0 1 Fields\n",
-        ),
-        (
-            "# sample",
-            "EDTKERNEL COSINE",
-            "edtloc: control 0 1 FileType\n",
-        ),
     ] {
         expect_refused(&rt, alloc, &[Swap("e1.in", old, new)], 3, err)?;
+    }
+    Ok(())
+}
+
+#[test]
+fn names_a_faulty_line_after_those_of_the_sample(rt: HostRuntime) -> Result<(), Fail> {
+    let alloc = rt.alloc();
+    let long = "#".repeat(alloc, 4097)?;
+    let many = "INCLUDE more.in\n".repeat(alloc, 17)?;
+    for (more, err) in [
+        ("EDTKERNEL COUNT", "edtloc: control 0 10 Fields\n"),
+        ("EDTKERNEL COSINE", "edtloc: control 0 10 FileType\n"),
+        ("EDTBUDGET 0", "edtloc: control 0 10 Limit\n"),
+        (long.as_str(), "edtloc: control 0 10 LongLine\n"),
+        (many.as_str(), "edtloc: control 0 26 Limit\n"),
+    ] {
+        let control = format!(in alloc; "{CONTROL}{more}\n")?;
+        let changes = [Put("e1.in", control.as_str().as_bytes())];
+        expect_refused(&rt, alloc, &changes, 3, err)?;
     }
     Ok(())
 }
@@ -68,6 +77,15 @@ fn names_absent_included_files_before_faulty_statements(rt: HostRuntime) -> Resu
 #[test]
 fn refuses_control_files_past_their_limit(rt: HostRuntime) -> Result<(), Fail> {
     let alloc = rt.alloc();
+    let whole = vec![in alloc; b'\n'; 1_048_576]?;
+    let main = [Put("e1.in", &whole)];
+    let err = "edtloc: control 0 0 Missing LOCFILES\n";
+    expect_refused(&rt, alloc, &main, 3, err)?;
+    let included = [
+        Swap("e1.in", "# sample", "INCLUDE first.in"),
+        Add("first.in", &whole),
+    ];
+    expect_text(&rt, alloc, &included, TEXT)?;
     let long = vec![in alloc; b' '; 1_048_577]?;
     let main = [Put("e1.in", &long)];
     expect_refused(&rt, alloc, &main, 3, "edtloc: control 0 0 TooLong\n")?;
@@ -99,6 +117,10 @@ fn names_the_first_faulty_line_of_a_phase_file(rt: HostRuntime) -> Result<(), Fa
 #[test]
 fn refuses_a_phase_file_past_its_limit(rt: HostRuntime) -> Result<(), Fail> {
     let alloc = rt.alloc();
+    let whole = vec![in alloc; b'\n'; 16_777_216]?;
+    let changes = [Put("obs.txt", &whole)];
+    let text = "EDTLOC 1 EVENTS 0 PASSED 2 0\n";
+    expect_text(&rt, alloc, &changes, text)?;
     let long = vec![in alloc; b' '; 16_777_217]?;
     let changes = [Put("obs.txt", &long)];
     expect_refused(&rt, alloc, &changes, 4, "edtloc: phases 0 TooLong\n")
@@ -133,6 +155,33 @@ fn refuses_headers_of_another_form(rt: HostRuntime) -> Result<(), Fail> {
         expect_refused(&rt, alloc, &[Swap(header, old, new)], 5, err)?;
     }
     Ok(())
+}
+
+#[test]
+fn refuses_headers_past_their_limits(rt: HostRuntime) -> Result<(), Fail> {
+    let alloc = rt.alloc();
+    let header = "time/a.P.AAA.time.hdr";
+    for (old, new, err) in [
+        (
+            "1.0 1.0 1.0 TIME",
+            "1.0 0.0 1.0 TIME",
+            "edtloc: header time/a.P.AAA.time.hdr Limit\n",
+        ),
+        (
+            "4 1 1 10.0",
+            "4 1 1 1e30",
+            "edtloc: header time/a.P.AAA.time.hdr Number\n",
+        ),
+    ] {
+        expect_refused(&rt, alloc, &[Swap(header, old, new)], 5, err)?;
+    }
+    let blanks = " ".repeat(alloc, 65_537 - FIRST_HEADER.len())?;
+    let long = format!(in alloc; "{FIRST_HEADER}{blanks}")?;
+    let changes = [Put(header, long.as_str().as_bytes())];
+    let err = "edtloc: header time/a.P.AAA.time.hdr TooLong\n";
+    expect_refused(&rt, alloc, &changes, 5, err)?;
+    let changes = [Put(header, &long.as_str().as_bytes()[..65_536])];
+    expect_text(&rt, alloc, &changes, TEXT)
 }
 
 #[test]
