@@ -1,6 +1,7 @@
 //! Runs that are refused.
 
 use super::running::{Change, Ending, Run, expect, expect_refused, plain};
+use std::alloc::Global;
 use std::process::Abort;
 use std::test::Fail;
 
@@ -51,18 +52,18 @@ fn a_report_without_a_whole_first_line_is_refused(rt: HostRuntime) -> Result<(),
     Ok(())
 }
 
+// Asserts how a report of so many line feeds is refused.
+fn expect_feeds(rt: &impl Abort, alloc: Global, bytes: usize, line: &str) -> Result<(), Fail> {
+    let report = vec![in alloc; b'\n'; bytes]?;
+    let changes = [Change::Put("e1.report", &report)];
+    expect_refused(rt, alloc, &changes, 10, line)
+}
+
 #[test]
 fn a_report_past_its_limit_is_refused_before_it_is_read(rt: HostRuntime) -> Result<(), Fail> {
     let alloc = rt.alloc();
-    let long = vec![in alloc; b'\n'; 268_435_457]?;
-    for (bytes, line) in [
-        (&long[..268_435_456], "edtcheck: report 1 Form\n"),
-        (&long[..], "edtcheck: report 0 TooLong\n"),
-    ] {
-        let change = Change::Put("e1.report", bytes);
-        expect_refused(&rt, alloc, &[change], 10, line)?;
-    }
-    Ok(())
+    expect_feeds(&rt, alloc, 268_435_456, "edtcheck: report 1 Form\n")?;
+    expect_feeds(&rt, alloc, 268_435_457, "edtcheck: report 0 TooLong\n")
 }
 
 #[test]

@@ -175,13 +175,14 @@ fn refuses_headers_past_their_limits(rt: HostRuntime) -> Result<(), Fail> {
     ] {
         expect_refused(&rt, alloc, &[Swap(header, old, new)], 5, err)?;
     }
-    let blanks = " ".repeat(alloc, 65_537 - FIRST_HEADER.len())?;
-    let long = format!(in alloc; "{FIRST_HEADER}{blanks}")?;
+    let blanks = " ".repeat(alloc, 65_536 - FIRST_HEADER.len())?;
+    let whole = format!(in alloc; "{FIRST_HEADER}{blanks}")?;
+    let changes = [Put(header, whole.as_str().as_bytes())];
+    expect_text(&rt, alloc, &changes, TEXT)?;
+    let long = format!(in alloc; "{whole} ")?;
     let changes = [Put(header, long.as_str().as_bytes())];
     let err = "edtloc: header time/a.P.AAA.time.hdr TooLong\n";
-    expect_refused(&rt, alloc, &changes, 5, err)?;
-    let changes = [Put(header, &long.as_str().as_bytes()[..65_536])];
-    expect_text(&rt, alloc, &changes, TEXT)
+    expect_refused(&rt, alloc, &changes, 5, err)
 }
 
 #[test]
