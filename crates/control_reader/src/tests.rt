@@ -159,6 +159,19 @@ fn optional_words_and_statements_are_read(rt: HostRuntime) -> Result<(), Fail> {
 }
 
 #[test]
+fn the_grid_is_one_root_where_no_octree_is_asked(rt: HostRuntime) -> Result<(), Fail> {
+    let alloc = rt.alloc();
+    for line in ["", "LOCSEARCH GRID 7 7 7\n", "LOCSEARCH MET 7 7 7\n"] {
+        let text = sample_with(alloc, 9, line)?;
+        match read(alloc, text.as_str(), &[]) {
+            Ok(control) => assert!(rt; control.cells == (1, 1, 1)),
+            Err(_) => assert!(rt; false),
+        }
+    }
+    Ok(())
+}
+
+#[test]
 fn lists_are_in_the_order_of_their_statements(rt: HostRuntime) -> Result<(), Fail> {
     let alloc = rt.alloc();
     let lines = "LOCPHASEID P p Pn\nLOCEXCLUDE A P\nLOCPHASEID S Sg\nLOCEXCLUDE B S x\n\

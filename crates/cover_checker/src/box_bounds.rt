@@ -16,7 +16,7 @@ use crate::case::Case;
 use edt_score::{KeptPairs, Look};
 use node_boxes::{Grid, NodeBox};
 
-/// The bound of a box that lies in the grid. Each pick's time is looked up once at each node of the box.
+/// The bound of a box that lies in the grid. Each pick's time at each node of the box counts as one look-up.
 pub(crate) fn box_bound<F: Fn(u64, u64) -> u64, L: Look>(
     case: &Case<F>,
     look: &mut L,

@@ -43,8 +43,8 @@ pub trait Look {
         ensures same_times { times self.new ≡ times self.old }
         ensures looked { count self.new ≡ count self.old + 1 };
 
-    /// The least and the greatest travel time of a pick at the nodes of a box, each of which is looked up
-    /// once. The grid is any with the number of nodes. Takes no memory.
+    /// The least and the greatest travel time of a pick at the nodes of a box, each of which counts as one
+    /// look-up. The grid is any with the number of nodes. Takes no memory.
     fn span(&mut self, pick: u32, grid: &Grid, area: &NodeBox) -> (u32, u32)
         requires pick { pick < picks self.old }
         requires nodes { nodes self.old ≡ node_count grid.now }

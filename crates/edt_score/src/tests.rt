@@ -167,7 +167,7 @@ fn bounds<F: Fn(u64, u64) -> u64>(
 fn bounds_of_the_sample_are_those_of_its_best_node_or_0(rt: HostRuntime) -> Result<(), Fail> {
     let alloc = rt.alloc();
     let field = sample(alloc)?;
-    let problem = two_picks(alloc, 0, 0)?;
+    let problem = two_picks(alloc, 0, 1_000_000)?;
     let gaussian = Falloff::new(Shape::Gauss, |misfit, scale| gauss(misfit, scale));
     assert_eq!(rt;
         bounds(alloc, &field, &problem, &gaussian)?,
