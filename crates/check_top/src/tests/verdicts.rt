@@ -136,17 +136,30 @@ fn a_later_node_of_the_best_score_is_refused(rt: HostRuntime) -> Result<(), Fail
     expect_line(&rt, alloc, &later, 1, "CHECK 1 REFUSED NOTFIRST 0\n")
 }
 
-// Without the header of one station the sample's event has one used pick.
+// Asserts what is said of the event of the changed sample where its report has this block.
+fn expect_block(
+    rt: &impl Abort,
+    alloc: Global,
+    changes: &[Change],
+    block: &str,
+    status: u8,
+    words: &str,
+) -> Result<(), Fail> {
+    let mut all = Vec::new(alloc);
+    for change in changes {
+        all.push(*change)?;
+    }
+    all.push(Change::Swap("e1.report", LOCATED, block))?;
+    let line = format!(in alloc; "CHECK 1 {words}\n")?;
+    expect_line(rt, alloc, &all, status, line.as_str())
+}
+
+// Without the header of one station the sample's event has one used pick. A search of it would pass a budget of 4.
 #[test]
 fn kinds_are_held_against_the_event(rt: HostRuntime) -> Result<(), Fail> {
-    let alloc = rt.alloc();
     let few = Change::Remove("time/a.P.BBB.time.hdr");
     let three = Change::Swap("e1.in", "EDT 9999.0 2", "EDT 9999.0 3");
     let budget = Change::Swap("e1.in", "LOCGAU", "EDTBUDGET 4\nLOCGAU");
-    // Each of the 257 picks is used, since duplicates aren't rejected.
-    let kept = Change::Swap("e1.in", "2 -1 -1 -1 0", "2 -1 -1 -1 0 -1 0");
-    let picks = "AAA ? ? ? P U 19940217 2216 45.0 GAU 0.1\n".repeat(alloc, 257)?;
-    let many = Change::Put("obs.txt", picks.as_str().as_bytes());
     for (changes, kind, status, words) in [
         (&[][..], "CERT FEW\n", 1, "REFUSED KIND"),
         (&[], "CERT MANY\n", 1, "REFUSED KIND"),
@@ -156,11 +169,6 @@ fn kinds_are_held_against_the_event(rt: HostRuntime) -> Result<(), Fail> {
         (&[few], "CERT BUDGET\n", 1, "REFUSED KIND"),
         (&[few], "CERT FEW\n", 0, "AGREED FEW"),
         (&[three], "CERT FEW\n", 0, "AGREED FEW"),
-        (&[kept, many], "CERT MANY\n", 0, "AGREED MANY"),
-        (&[kept, many], "CERT FEW\n", 1, "REFUSED KIND"),
-        (&[kept, many], "CERT BUDGET\n", 1, "REFUSED KIND"),
-        (&[kept, many], LOCATED, 1, "REFUSED KIND"),
-        // The search would pass this budget.
         (&[budget], "CERT BUDGET\n", 0, "UNPROVED BUDGET"),
         (
             &[budget],
@@ -169,13 +177,32 @@ fn kinds_are_held_against_the_event(rt: HostRuntime) -> Result<(), Fail> {
             "PROVED 0 0 0 0 10000000 0 0 343597383680 1",
         ),
     ] {
-        let mut all = Vec::new(alloc);
-        for change in changes {
-            all.push(*change)?;
-        }
-        all.push(Change::Swap("e1.report", LOCATED, kind))?;
-        let line = format!(in alloc; "CHECK 1 {words}\n")?;
-        expect_line(&rt, alloc, &all, status, line.as_str())?;
+        expect_block(&rt, rt.alloc(), changes, kind, status, words)?;
     }
     Ok(())
+}
+
+// Asserts the same where these are the phase file's lines, and duplicates aren't rejected.
+fn expect_of_picks(
+    rt: &impl Abort,
+    alloc: Global,
+    lines: &str,
+    block: &str,
+    status: u8,
+    words: &str,
+) -> Result<(), Fail> {
+    let kept = Change::Swap("e1.in", "2 -1 -1 -1 0", "2 -1 -1 -1 0 -1 0");
+    let changes = [kept, Change::Put("obs.txt", lines.as_bytes())];
+    expect_block(rt, alloc, &changes, block, status, words)
+}
+
+#[test]
+fn many_picks_agree_with_their_own_kind_alone(rt: HostRuntime) -> Result<(), Fail> {
+    let alloc = rt.alloc();
+    let lines = "AAA ? ? ? P U 19940217 2216 45.0 GAU 0.1\n".repeat(alloc, 257)?;
+    let lines = lines.as_str();
+    expect_of_picks(&rt, alloc, lines, "CERT MANY\n", 0, "AGREED MANY")?;
+    expect_of_picks(&rt, alloc, lines, "CERT FEW\n", 1, "REFUSED KIND")?;
+    expect_of_picks(&rt, alloc, lines, "CERT BUDGET\n", 1, "REFUSED KIND")?;
+    expect_of_picks(&rt, alloc, lines, LOCATED, 1, "REFUSED KIND")
 }
