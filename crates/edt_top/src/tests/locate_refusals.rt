@@ -175,12 +175,18 @@ fn refuses_headers_past_their_limits(rt: HostRuntime) -> Result<(), Fail> {
     ] {
         expect_refused(&rt, alloc, &[Swap(header, old, new)], 5, err)?;
     }
+    Ok(())
+}
+
+#[test]
+fn refuses_a_header_file_past_its_limit(rt: HostRuntime) -> Result<(), Fail> {
+    let alloc = rt.alloc();
     let blanks = " ".repeat(alloc, 65_536 - FIRST_HEADER.len())?;
     let whole = format!(in alloc; "{FIRST_HEADER}{blanks}")?;
-    let changes = [Put(header, whole.as_str().as_bytes())];
+    let changes = [Put("time/a.P.AAA.time.hdr", whole.as_str().as_bytes())];
     expect_text(&rt, alloc, &changes, TEXT)?;
     let long = format!(in alloc; "{whole} ")?;
-    let changes = [Put(header, long.as_str().as_bytes())];
+    let changes = [Put("time/a.P.AAA.time.hdr", long.as_str().as_bytes())];
     let err = "edtloc: header time/a.P.AAA.time.hdr TooLong\n";
     expect_refused(&rt, alloc, &changes, 5, err)
 }
