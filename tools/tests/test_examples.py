@@ -104,7 +104,8 @@ class Examples(unittest.TestCase):
         for program, words in ("edtloc", [b"locate", b"\xff"]), ("edtcheck", [b"\xff", b"a.report"]):
             command = [os.path.join(TOP, "tools", program).encode(), *words]
             run = subprocess.run(command, capture_output=True, check=False)
-            self.assertEqual((run.returncode, run.stdout, run.stderr), (2, b"", b"%s: words\n" % program.encode()), command)
+            told = "%s: words\ntools/%s: `tools/%s help` shows the words that it takes\n" % (program, program, program)
+            self.assertEqual((run.returncode, run.stdout, run.stderr.decode()), (2, b"", told), command)
 
     def test_readme(self):
         text = self.run_program("examples/quarry", "edtloc", "locate", "quarry.in")

@@ -36,6 +36,10 @@ BUILDS = "tools/edtloc: proves and builds edtloc from its 3 crates; from nothing
 STAGES = "tools/edtloc: crate 1 of 3: low, 0:00\ntools/edtloc: crate 2 of 3: middle, 0:00\ntools/edtloc: built after 0:00\n"
 
 
+def heed_interrupts():
+    signal.signal(signal.SIGINT, signal.SIG_DFL)
+
+
 class Programs(ToolTest):
     """Runs in a small repository with the tools and the documents of this one."""
 
@@ -54,8 +58,8 @@ class Programs(ToolTest):
         self.environment = dict(os.environ, PATH="%s:%s" % (self.path("fake"), os.environ["PATH"]), FAKE=self.path("fake"))
 
     def start(self, *words, tool="edtloc", **how):
-        """Starts a tool in a process group of its own."""
-        how = {"stdout": subprocess.PIPE, "stderr": subprocess.PIPE, **how}
+        """Starts a tool in a process group of its own. A test that runs in the background ignores SIGINT, and so would the tool."""
+        how = {"stdout": subprocess.PIPE, "stderr": subprocess.PIPE, "preexec_fn": heed_interrupts, **how}
         return subprocess.Popen(
             [self.path("tools", tool), *words], cwd=self.folder, env=self.environment, start_new_session=True, text=True, **how
         )
