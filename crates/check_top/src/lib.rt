@@ -10,8 +10,6 @@ mod refusals;
 mod report;
 mod run;
 mod telling;
-#[cfg(test)]
-mod tests;
 
 pub use laws::own_law;
 pub use run::check_run;

@@ -9,8 +9,6 @@ mod laws;
 mod reading;
 mod statement;
 mod taking;
-#[cfg(test)]
-mod tests;
 mod values;
 mod words;
 

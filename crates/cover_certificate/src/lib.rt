@@ -14,8 +14,6 @@ mod line_form;
 mod line_words;
 mod numbers;
 mod reading;
-#[cfg(test)]
-mod tests;
 mod text_size;
 mod writing;
 

@@ -17,8 +17,6 @@ mod marks;
 mod near;
 mod passes;
 mod placing;
-#[cfg(test)]
-mod tests;
 mod verdict;
 
 pub use field_check::check;

@@ -30,6 +30,3 @@ pub use shelves::Shelf;
 pub use sinks::Sink;
 pub use std_sink::StdSink;
 pub use writing::put_all;
-
-#[cfg(test)]
-mod tests;

@@ -19,8 +19,6 @@ mod pairs;
 mod problem;
 mod pyramid_judge;
 mod scorer;
-#[cfg(test)]
-mod tests;
 mod totals;
 mod used_rows;
 mod values;

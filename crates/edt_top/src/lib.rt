@@ -9,8 +9,6 @@ mod refusals;
 mod run;
 mod solve;
 mod telling;
-#[cfg(test)]
-mod tests;
 mod writing;
 
 pub use run::locate_run;

@@ -11,8 +11,6 @@ mod names;
 mod planning;
 mod problems;
 mod rows;
-#[cfg(test)]
-mod tests;
 
 pub use assembling::assemble;
 pub use assembly::{Assembly, Case, Prepared};

@@ -9,8 +9,6 @@
 mod header;
 mod laws;
 mod numbers;
-#[cfg(test)]
-mod tests;
 mod words;
 
 pub use header::{Header, HeaderError, read_header};

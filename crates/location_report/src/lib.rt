@@ -17,6 +17,3 @@ mod room;
 pub use lanes::LaneCount;
 pub use laws::report_law;
 pub use reporting::report;
-
-#[cfg(test)]
-mod tests;

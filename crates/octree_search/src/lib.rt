@@ -11,8 +11,6 @@ mod near;
 mod nearness;
 mod queue;
 mod searching;
-#[cfg(test)]
-mod tests;
 
 pub use arena::{Met, open_at};
 pub use found::{Found, Located};

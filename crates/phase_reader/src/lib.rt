@@ -12,8 +12,6 @@ mod kind;
 mod laws;
 mod phases;
 mod reading;
-#[cfg(test)]
-mod tests;
 mod values;
 
 pub use fault::{PhaseCause, PhaseFault};

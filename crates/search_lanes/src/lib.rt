@@ -14,8 +14,6 @@ mod lanes;
 mod laws;
 mod next_events;
 mod searching;
-#[cfg(test)]
-mod tests;
 
 pub use lane_events::{LaneEvent, StepFault};
 pub use lanes::Lanes;

@@ -13,8 +13,6 @@ mod named_pick;
 mod picks;
 mod reasons;
 mod stations;
-#[cfg(test)]
-mod tests;
 mod using;
 mod wanting;
 

@@ -15,8 +15,6 @@ mod laws;
 mod numbers;
 mod selections;
 mod streaming;
-#[cfg(test)]
-mod tests;
 
 pub use faults::{AlignFault, Axis, GridFault, StreamFault};
 pub use grids::TimeGrid;

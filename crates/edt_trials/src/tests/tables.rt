@@ -1,15 +1,13 @@
 //! Searches by tables of scores, whose outcomes were found apart from this code.
 ghost use Rattle.std.specs.Prelude.{◌≤◌};
 
+use super::samples::WHOLE;
 use crate::TableJudge;
 use edt_score::Judge;
 use node_boxes::{BoxBound, Grid, NodeBox, roots};
 use octree_search::{Found, search};
 use std::alloc::{AllocError, Global};
 use std::test::Fail;
-
-/// What a full pair of picks is worth.
-const WHOLE: u64 = 343_597_383_680;
 
 /// What a search of one root finds by a table, and how often it asked.
 fn searched(
