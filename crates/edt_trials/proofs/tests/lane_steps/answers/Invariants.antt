@@ -1,6 +1,6 @@
 use Rattle.std.proofs.Common.{◌≡◌, ◌+◌, ◌-◌, ◌^◌, ◌<◌}
 use Rattle.search_lanes.specs.LaneViews.{Fits}
-use Rattle.search_lanes.proofs.tests.answers.Given as goal
+use Rattle.edt_trials.proofs.tests.lane_steps.answers.Given as goal
 
 abbrev pub invariant-loop-row : goal.invariant-loop-row
 invariant-loop-row g l = record {

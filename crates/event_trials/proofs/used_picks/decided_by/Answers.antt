@@ -1,7 +1,7 @@
 use Rattle.std.proofs.Common.{sym, subst}
 use Rattle.phase_reader.specs.declared.phases.Event.{Event}
 use Rattle.station_table.specs.Limits.{HoldsKeysOf}
-use Rattle.station_table.proofs.tests.decided_by.Goals as goal
+use Rattle.event_trials.proofs.used_picks.decided_by.Goals as goal
 
 pub use_picks-requires-clause-holds : goal.use_picks-requires-clause-holds
 use_picks-requires-clause-holds c =

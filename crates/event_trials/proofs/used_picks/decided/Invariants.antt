@@ -1,6 +1,6 @@
 use Rattle.std.proofs.Common.{◌≡◌, length, All}
 use Rattle.station_table.specs.Limits.{IsPlace}
-use Rattle.station_table.proofs.tests.decided.Given as goal
+use Rattle.event_trials.proofs.used_picks.decided.Given as goal
 
 abbrev pub invariant-loop-key : goal.invariant-loop-key
 invariant-loop-key l = record {

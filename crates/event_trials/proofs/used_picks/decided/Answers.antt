@@ -2,7 +2,7 @@ use Rattle.std.proofs.Common.{◌≡◌, ◌<◌, length, get_or, sym, subst, ap
 use Rattle.control_reader.specs.ControlValues.{values_of}
 use Rattle.phase_reader.specs.declared.phases.Event.{Event}
 use Rattle.station_table.specs.Limits.{HoldsKeysOf}
-use Rattle.station_table.proofs.tests.decided.Goals as goal
+use Rattle.event_trials.proofs.used_picks.decided.Goals as goal
 
 pub use_picks-requires-clause-keys : goal.use_picks-requires-clause-keys
 use_picks-requires-clause-keys c =

@@ -3,7 +3,7 @@ use Rattle.std.proofs.lemmas.Bool.Decides.{nat_tests}
 use Rattle.std.proofs.lemmas.Int.{ints}
 use Rattle.phase_reader.specs.Limits.{AreNearFirst}
 use Rattle.phase_reader.specs.declared.phases.Pick.{Pick}
-use Rattle.station_table.proofs.tests.event_of.Goals as goal
+use Rattle.event_trials.proofs.used_picks.event_of.Goals as goal
 
 -- picks of one time are near the first
 near_first : (picks : List Pick) → All (λ (pick : Pick). pick.time ≡ pos 0) picks → AreNearFirst picks

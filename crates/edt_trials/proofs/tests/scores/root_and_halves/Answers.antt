@@ -5,7 +5,7 @@ use Rattle.node_boxes.specs.Boxes.{is_single}
 use Rattle.node_boxes.specs.Children.{children_of}
 use Rattle.node_boxes.specs.Octree.{Child, IsOctreeBox, Root}
 use Rattle.edt_score.proofs.KeptFamilies.{child_contained}
-use Rattle.edt_score.proofs.tests.root_and_halves.Goals as goal
+use Rattle.edt_trials.proofs.tests.scores.root_and_halves.Goals as goal
 
 no_box : NodeBox
 no_box = record { x0 = 0; x1 = 0; y0 = 0; y1 = 0; z0 = 0; z1 = 0 }

@@ -3,7 +3,7 @@ use Rattle.std.proofs.lemmas.List.Elements.{All-push}
 use Rattle.control_reader.specs.Limits.{IsControl, IsDelay}
 use Rattle.control_reader.specs.declared.control.Control.{Control}
 use Rattle.control_reader.specs.declared.control.Delay.{Delay}
-use Rattle.station_table.proofs.tests.add_delay.Goals as goal
+use Rattle.event_trials.proofs.used_picks.add_delay.Goals as goal
 
 -- a control with other delays
 with_delays : (control : Control) (delays : Vec Delay Global) → IsControl control → All IsDelay delays.items → IsControl (record control { delays = delays })

@@ -1,7 +1,7 @@
 use Rattle.std.proofs.Common.{◌≡◌, length, All, pos}
 use Rattle.phase_reader.specs.Limits.{IsPick}
 use Rattle.phase_reader.specs.declared.phases.Pick.{Pick}
-use Rattle.station_table.proofs.tests.event_of.Given as goal
+use Rattle.event_trials.proofs.used_picks.event_of.Given as goal
 
 abbrev pub invariant-loop-row : goal.invariant-loop-row
 invariant-loop-row l = record {
