@@ -155,7 +155,7 @@ fn expect_block(
     expect_line(rt, alloc, &all, status, line.as_str())
 }
 
-// Without the header of one station the sample's event has one used pick. A search of it would pass a budget of 4.
+// Without the header of one station the sample's event has one used pick. A search of that event would pass a budget of 4.
 #[test]
 fn kinds_are_held_against_the_event(rt: HostRuntime) -> Result<(), Fail> {
     let few = Change::Remove("time/a.P.BBB.time.hdr");
