@@ -1,36 +1,21 @@
 //! Certificates both ways, and their faults.
+use super::samples::along_x;
 use cover_certificate::{Block, BlockCause, BlockFault, LocatedBlock, read_block, write_block};
 use edt_text::Lines;
-use node_boxes::{BoxBound, NodeBox};
 use std::alloc::Global;
 use std::test::Fail;
 
 const SAMPLE: &str =
     "CERT LOCATED\nBEST 0 343597383680\nNEAR 1\n0 343597383680\nCOVER 3\n0 1 0 1 0 1 343597383680\n1 2 0 1 0 1 0\n2 4 0 1 0 1 0\nEND\n";
 
-// A box of places on the first axis, in a test.
-fn slab(x0: u32, x1: u32, bound: u64) -> BoxBound {
-    BoxBound {
-        area: NodeBox {
-            x0,
-            x1,
-            y0: 0,
-            y1: 1,
-            z0: 0,
-            z1: 1,
-        },
-        bound,
-    }
-}
-
 // The block of the sample.
 fn sample(alloc: Global) -> Result<Block, Fail> {
     let mut near = Vec::new(alloc);
     near.push((0, 343_597_383_680))?;
     let mut cover = Vec::new(alloc);
-    cover.push(slab(0, 1, 343_597_383_680))?;
-    cover.push(slab(1, 2, 0))?;
-    cover.push(slab(2, 4, 0))?;
+    cover.push(along_x(0, 1, 343_597_383_680))?;
+    cover.push(along_x(1, 2, 0))?;
+    cover.push(along_x(2, 4, 0))?;
     Ok(Block::Located(LocatedBlock {
         hyp: 0,
         score: 343_597_383_680,

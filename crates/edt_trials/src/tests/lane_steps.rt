@@ -2,10 +2,10 @@
 ghost use Rattle.std.specs.Prelude.{◌≡◌, ◌+◌, ◌-◌, ◌^◌, ◌<◌, ◌≤◌, IfOk, length};
 ghost use Rattle.search_lanes.specs.LaneViews.{Fits};
 
-use super::samples::{WHOLE, two_picks};
+use super::samples::{WHOLE, along_x, two_picks};
 use edt_score::{Field, Judge, PyramidJudge, Scorer};
 use kernel_table::{Falloff, Shape, gauss};
-use node_boxes::{BoxBound, Grid, NodeBox, roots};
+use node_boxes::{Grid, roots};
 use octree_search::{Found, Located};
 use search_lanes::LaneEvent::{Done, Lost, Take};
 use search_lanes::StepFault::Impossible;
@@ -114,25 +114,12 @@ fn searched(alloc: Global, lanes: u32, seed: i64, budget: u32) -> Result<(LaneRu
     Ok((run, asked))
 }
 
-/// A box of a cover.
-fn in_cover(x0: u32, x1: u32, bound: u64) -> BoxBound {
-    let area = NodeBox {
-        x0,
-        x1,
-        y0: 0,
-        y1: 1,
-        z0: 0,
-        z1: 1,
-    };
-    BoxBound { area, bound }
-}
-
 /// Whether the first node was located, with its near list and cover, after five boxes were met.
 fn is_first_node(found: &Found) -> bool {
     let Found::Located(event) = found else {
         return false;
     };
-    let cover = [in_cover(0, 1, WHOLE), in_cover(1, 2, 0), in_cover(2, 4, 0)];
+    let cover = [along_x(0, 1, WHOLE), along_x(1, 2, 0), along_x(2, 4, 0)];
     event.hyp == 0
         && event.score == WHOLE
         && event.near.as_slice() == &[(0, WHOLE)][..]

@@ -1,9 +1,9 @@
-//! Two rows over four nodes, and two picks for two rows.
+//! Two rows over four nodes, two picks for two rows, and boxes of covers.
 ghost use Rattle.std.specs.Prelude.{◌≡◌, ◌≤◌, ◌-ℤ◌, [], ◌∷◌, IfOk, length, unsigned_abs};
 ghost use Rattle.node_boxes.specs.Grid.{grid_size};
 
 use edt_score::{Field, Problem, ProblemPick};
-use node_boxes::{Grid, roots};
+use node_boxes::{BoxBound, Grid, NodeBox, roots};
 use std::alloc::{AllocError, Global};
 use std::test::Fail;
 
@@ -37,4 +37,26 @@ pub fn two_picks(alloc: Global, first: i64, second: i64) -> Result<Problem, Allo
     };
     let picks = vec![in alloc; pick(first, 0), pick(second, 1)]?;
     Ok(Problem { picks })
+}
+
+/// A box of a cover along the x axis.
+pub fn along_x(x0: u32, x1: u32, bound: u64) -> BoxBound {
+    let area = NodeBox {
+        x0,
+        x1,
+        y0: 0,
+        y1: 1,
+        z0: 0,
+        z1: 1,
+    };
+    BoxBound { area, bound }
+}
+
+/// The first node on the x and the y axis of each box of a cover.
+pub fn corners(alloc: Global, cover: &[BoxBound]) -> Result<Vec<(u32, u32)>, AllocError> {
+    let mut corners = Vec::new(alloc);
+    for b in cover {
+        corners.push((b.area.x0, b.area.y0))?;
+    }
+    Ok(corners)
 }

@@ -5,7 +5,7 @@ ghost use Rattle.kernel_table.specs.Falloff.{AnswersItsShape};
 ghost use Rattle.edt_score.specs.Field.{IsRow};
 ghost use Rattle.edt_score.specs.Problem.{IsValidProblem};
 
-use super::samples::{WHOLE, two_picks};
+use super::samples::{WHOLE, corners, two_picks};
 use edt_score::{Field, Judge, PyramidJudge, Scorer};
 use kernel_table::{Falloff, Shape, gauss};
 use node_boxes::{BoxBound, Grid, NodeBox, roots};
@@ -64,15 +64,6 @@ fn in_cover(x: (u32, u32), y: (u32, u32), bound: u64) -> BoxBound {
         z1: 1,
     };
     BoxBound { area, bound }
-}
-
-/// The first node on the x and the y axis of each box of a cover.
-fn corners(alloc: Global, cover: &[BoxBound]) -> Result<Vec<(u32, u32)>, AllocError> {
-    let mut corners = Vec::new(alloc);
-    for b in cover {
-        corners.push((b.area.x0, b.area.y0))?;
-    }
-    Ok(corners)
 }
 
 #[test]

@@ -1,12 +1,12 @@
 //! Searches by tables of scores, whose outcomes were found apart from this code.
 ghost use Rattle.std.specs.Prelude.{◌≤◌};
 
-use super::samples::WHOLE;
+use super::samples::{WHOLE, along_x, corners};
 use crate::TableJudge;
 use edt_score::Judge;
-use node_boxes::{BoxBound, Grid, NodeBox, roots};
+use node_boxes::{Grid, roots};
 use octree_search::{Found, search};
-use std::alloc::{AllocError, Global};
+use std::alloc::Global;
 use std::test::Fail;
 
 /// What a search of one root finds by a table, and how often it asked.
@@ -29,28 +29,6 @@ fn searched(
     let found = search(alloc, &mut judge, &grid, &same, margin, budget)?;
     let asked = judge.asked();
     Ok((found, asked))
-}
-
-/// A box of a cover along the x axis.
-fn along_x(x0: u32, x1: u32, bound: u64) -> BoxBound {
-    let area = NodeBox {
-        x0,
-        x1,
-        y0: 0,
-        y1: 1,
-        z0: 0,
-        z1: 1,
-    };
-    BoxBound { area, bound }
-}
-
-/// The first node on the x and the y axis of each box of a cover.
-fn corners(alloc: Global, cover: &[BoxBound]) -> Result<Vec<(u32, u32)>, AllocError> {
-    let mut corners = Vec::new(alloc);
-    for b in cover {
-        corners.push((b.area.x0, b.area.y0))?;
-    }
-    Ok(corners)
 }
 
 #[test]
