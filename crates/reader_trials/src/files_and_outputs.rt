@@ -1,6 +1,7 @@
 //! What no clause says: worked reads and writes, each refusal, and that none answers that memory ran out.
-ghost use Rattle.std.specs.Prelude.{◌≤◌, None};
+ghost use Rattle.std.specs.Prelude.{◌≤◌};
 
+use crate::endless::Endless;
 use edt_outside::{
     DirShelf, Failed, HasFault, MemoryShelf, MemorySink, Name, OpenFault, PutFailed, ReadFault,
     Shelf, Sink, StdSink, names_differ, put_all, read_all,
@@ -24,36 +25,6 @@ fn shelf(rt: &impl Abort, alloc: Global, piece: usize, failing: &[u64]) -> Resul
     Ok(MemoryShelf::new(files, piece, failing.to_vec(alloc)?))
 }
 
-// A shelf whose every file goes on without end. It tells nothing.
-#[derive(Drop)]
-struct Endless;
-
-impl Shelf for Endless {
-    ghost files = { λ _. None };
-
-    ghost left = { λ _. None };
-
-    ghost faults = { λ _. 0 };
-
-    ghost misses = { λ _. 0 };
-
-    ghost lacks = { λ _. 0 };
-
-    ghost calls = { λ _. 0 };
-
-    fn has(&mut self, _name: &str) -> Result<bool, HasFault> {
-        Ok(true)
-    }
-
-    fn open_file(&mut self, _name: &str) -> Result<(), OpenFault> {
-        Ok(())
-    }
-
-    fn read(&mut self, into: &mut [u8]) -> Result<usize, Failed> {
-        Ok(into.len())
-    }
-}
-
 #[test]
 fn reads_the_whole_file_in_any_pieces(rt: HostRuntime) -> Result<(), Fail> {
     let alloc = rt.alloc();
@@ -67,7 +38,7 @@ fn reads_the_whole_file_in_any_pieces(rt: HostRuntime) -> Result<(), Fail> {
         let long = read_all(alloc, &mut shelf, "phases", TEXT.len() - 1);
         assert_eq!(rt; long.err(), Some(ReadFault::TooLong), "{piece}");
     }
-    let endless = read_all(alloc, &mut Endless, "phases", 100000);
+    let endless = read_all(alloc, &mut Endless { most: 65_536 }, "phases", 100000);
     assert_eq!(rt; endless.err(), Some(ReadFault::TooLong));
     Ok(())
 }

@@ -4,6 +4,8 @@
 #[cfg(test)]
 mod control_files;
 #[cfg(test)]
+mod endless;
+#[cfg(test)]
 mod files_and_outputs;
 #[cfg(test)]
 mod grid_headers;

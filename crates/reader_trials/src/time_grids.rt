@@ -3,7 +3,8 @@ ghost use Rattle.std.specs.Prelude.{◌≡◌, ◌≤◌, ◌≤ℤ◌, ◌^◌,
 ghost use Rattle.grid_header.specs.Reading.{IsValidHeader};
 ghost use Rattle.node_boxes.specs.Frame.{IsValidFrame};
 
-use edt_outside::{Failed, HasFault, MemoryShelf, Name, OpenFault, Shelf, names_differ};
+use crate::endless::Endless;
+use edt_outside::{Failed, MemoryShelf, Name, Shelf, names_differ};
 use grid_header::Header;
 use node_boxes::{Frame, Grid};
 use std::alloc::Global;
@@ -346,46 +347,22 @@ fn what_fails_and_what_is_absent_is_named_as_it_is_met(rt: HostRuntime) -> Resul
     Ok(())
 }
 
-// A shelf whose every file goes on without end, a byte at a time. It tells nothing.
-#[derive(Drop)]
-struct Endless;
-
-impl Shelf for Endless {
-    ghost files = { λ _. None };
-
-    ghost left = { λ _. None };
-
-    ghost faults = { λ _. 0 };
-
-    ghost misses = { λ _. 0 };
-
-    ghost lacks = { λ _. 0 };
-
-    ghost calls = { λ _. 0 };
-
-    fn has(&mut self, _name: &str) -> Result<bool, HasFault> {
-        Ok(true)
-    }
-
-    fn open_file(&mut self, _name: &str) -> Result<(), OpenFault> {
-        Ok(())
-    }
-
-    fn read(&mut self, into: &mut [u8]) -> Result<usize, Failed> {
-        Ok(into.len().min(1))
-    }
-}
-
 #[test]
 fn a_body_without_end_is_long(rt: HostRuntime) -> Result<(), Fail> {
     let alloc = rt.alloc();
     let header = header(10, 10, 10);
     let frame = frame((1, 1, 1), (10_000_000, 0, 0), 1)?;
-    let answer = TimeGrid::read(alloc, &mut Endless, "body", &header, ByteOrder::Little);
+    let answer = TimeGrid::read(
+        alloc,
+        &mut Endless { most: 1 },
+        "body",
+        &header,
+        ByteOrder::Little,
+    );
     assert_eq!(rt; answer.err(), Some(GridFault::Long));
     let answer = stream(
         alloc,
-        &mut Endless,
+        &mut Endless { most: 1 },
         "body",
         &header,
         ByteOrder::Little,
